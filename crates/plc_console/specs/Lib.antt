@@ -1,0 +1,11 @@
+pub mod Lines
+pub mod Among
+pub mod Scenario
+pub mod ScenarioReading
+pub mod Accepted
+pub mod Checking
+pub mod Meaning
+pub mod OneThread
+pub mod Journal
+pub mod Answers
+pub mod Cycling

@@ -1,0 +1,364 @@
+ghost use Rattle.std.specs.Prelude.{◌≡◌, ◌↔◌, ℕ, ◌<◌, ◌≤◌, ◌^◌, true, List, [], ◌∷◌, length, IsTrue, IfOk, OnOk, IsErrOf, MatchOption, SomeIff};
+ghost use Rattle.std.specs.List.{AllByRecursion, list_all};
+ghost use Rattle.plc_console.specs.declared.scenario.Scenario.{Scenario};
+ghost use Rattle.plc_console.specs.declared.scenario.Play.{Play};
+ghost use Rattle.st_reader.specs.Words as words;
+ghost use Rattle.plc_console.specs.Lines.{lines_of};
+ghost use Rattle.plc_console.specs.Among.{IsAmong};
+ghost use Rattle.plc_console.specs.Scenario.{IsPlain, IsPlayLine, IsScenario};
+ghost use Rattle.plc_console.specs.ScenarioReading.{IsSource, ArePlays, AreEmpty, HasParts, SeesName};
+ghost use Rattle.plc_console.specs.declared.scenario.ScenarioError.TheVariants as errors;
+
+use plc_text::{Items, NoMemory, Text};
+use std::alloc::{AllocError, Global};
+use std::marker::Model;
+use std::str;
+
+/// How many plays a scenario may have.
+const PLAY_LIMIT: usize = 65_536;
+
+/// How many tasks the plays of a scenario may name.
+const NAME_LIMIT: usize = 32;
+
+/// A first program and the plays that are run on it.
+#[derive(Debug, Drop)]
+pub struct Scenario {
+    /// The source text: its lines, each followed by LF.
+    pub program: Text,
+    pub plays: Items<Play>,
+}
+
+/// One cycle of a task at a moment. Plays are numbered from 1.
+#[derive(Debug, Drop)]
+pub struct Play {
+    /// The task's name, in upper case.
+    pub task: Text,
+    /// The moment, in milliseconds.
+    pub now: u32,
+}
+
+/// Why no scenario was read.
+#[derive(Clone, Copy, Debug, PartialEq, Eq)]
+pub enum ScenarioError {
+    /// The bytes are no scenario.
+    Bad,
+    NoMemory,
+}
+
+impl From<NoMemory> for ScenarioError {
+    ghost from_gives = { λ _ e. e ≡ errors.NoMemory };
+
+    fn from(_e: NoMemory) -> ScenarioError {
+        ScenarioError::NoMemory
+    }
+}
+
+impl From<AllocError> for ScenarioError {
+    ghost from_gives = { λ _ e. e ≡ errors.NoMemory };
+
+    fn from(_e: AllocError) -> ScenarioError {
+        ScenarioError::NoMemory
+    }
+}
+
+/// The lines of a text that are still to be read.
+#[derive(Drop)]
+struct Lines<'a> {
+    rest: &'a str,
+}
+
+impl<'a> Model for Lines<'a> {
+    ghost use Rattle.std.specs.Prelude.{List, ℕ};
+    ghost use Rattle.plc_console.specs.Lines.{lines_of};
+
+    ghost Value = { List (List ℕ) };
+
+    ghost view = { λ lines. lines_of lines.rest.now };
+}
+
+impl<'a> Lines<'a> {
+    fn next_line(&mut self) -> Option<&'a str>
+        ensures { MatchOption result ((self.old ≡ []) × (self.new ≡ [])) (λ line. self.old ≡ line.now ∷ self.new) }
+    {
+        if self.rest.is_empty() {
+            return None;
+        }
+        let (line, rest) = first_line(self.rest);
+        self.rest = rest;
+        Some(line)
+    }
+}
+
+/// The first line of a text and what follows its end.
+fn first_line(text: &str) -> (&str, &str)
+    requires { 0 < length text.now }
+    ensures { lines_of text.now ≡ result.0.now ∷ lines_of result.1.now }
+{
+    match text.split_once('\n') {
+        Some(parts) => parts,
+        None => (text, ""),
+    }
+}
+
+/// The scenario that the bytes are.
+pub fn read_scenario(alloc: Global, bytes: &[u8]) -> Result<Scenario, ScenarioError>
+    ensures ok { IfOk result (λ s. IsScenario bytes.now s) }
+    ensures bad { IsErrOf result ScenarioError.Bad → (s : Scenario) → IsScenario bytes.now s → ⊥ }
+{
+    let text = plain_text(bytes).ok_or(ScenarioError::Bad)?;
+    let mut lines = Lines { rest: text };
+    expect_line(&mut lines, "@program")?;
+    let program = read_source(alloc, &mut lines)?;
+    let plays = read_plays(alloc, &mut lines)?;
+    expect_empty(&mut lines)?;
+    Ok(Scenario { program, plays })
+}
+
+/// Bytes are at most one scenario.
+pub fn one_scenario()
+    ensures { (bytes : List ℕ) (s t : Scenario) → IsScenario bytes s → IsScenario bytes t → s ≡ t }
+{}
+
+/// The bytes as text, if they are ASCII without CR.
+fn plain_text(bytes: &[u8]) -> Option<&str>
+    ensures { MatchOption result (AllByRecursion IsPlain bytes.now → ⊥) (λ text. AllByRecursion IsPlain bytes.now × (text.now ≡ bytes.now)) }
+{
+    if is_plain(bytes) {
+        str::from_utf8(bytes).ok()
+    } else {
+        None
+    }
+}
+
+fn is_plain(bytes: &[u8]) -> bool
+    ensures { IsTrue result ↔ AllByRecursion IsPlain bytes.now }
+{
+    bytes.iter().all(|b| b.is_ascii() && *b != b'\r')
+}
+
+/// Reads one line, which has to be the wanted one.
+fn expect_line(lines: &mut Lines<'_>, wanted: &str) -> Result<(), ScenarioError>
+    ensures ok { OnOk result (lines.old ≡ wanted.now ∷ lines.new) }
+    ensures bad { IsErrOf result ScenarioError.Bad → (after : List (List ℕ)) → lines.old ≡ wanted.now ∷ after → ⊥ }
+{
+    match lines.next_line() {
+        Some(line) if line == wanted => Ok(()),
+        _ => Err(ScenarioError::Bad),
+    }
+}
+
+/// Reads to the end, where each line has to be empty.
+fn expect_empty(lines: &mut Lines<'_>) -> Result<(), ScenarioError>
+    ensures ok { OnOk result (AreEmpty lines.old) }
+    ensures bad { IsErrOf result ScenarioError.Bad → AreEmpty lines.old → ⊥ }
+{
+    while let Some(line) = lines.next_line() {
+        if !line.is_empty() {
+            return Err(ScenarioError::Bad);
+        }
+    }
+    Ok(())
+}
+
+/// Reads the lines of source and the line `@plays` behind them.
+fn read_source(alloc: Global, lines: &mut Lines<'_>) -> Result<Text, ScenarioError>
+    ensures ok { IfOk result (λ program. IsSource lines.old program lines.new) }
+    ensures bad { IsErrOf result ScenarioError.Bad → (program : List ℕ) (after : List (List ℕ)) → IsSource lines.old program after → ⊥ }
+{
+    let mut program = Text::new(alloc);
+    while let Some(line) = lines.next_line() {
+        if line == "@plays" {
+            return Ok(program);
+        }
+        if line.starts_with('@') {
+            return Err(ScenarioError::Bad);
+        }
+        program.push_str(line)?;
+        program.push_str("\n")?;
+    }
+    Err(ScenarioError::Bad)
+}
+
+/// Reads the lines of plays and the line `@end` behind them.
+fn read_plays(alloc: Global, lines: &mut Lines<'_>) -> Result<Items<Play>, ScenarioError>
+    ensures ok { IfOk result (λ plays. ArePlays lines.old plays lines.new) }
+    ensures bad { IsErrOf result ScenarioError.Bad → (plays : List Play) (after : List (List ℕ)) → ArePlays lines.old plays after → ⊥ }
+{
+    let mut plays = Items::new(alloc);
+    let mut names = Items::new(alloc);
+    while let Some(line) = lines.next_line() {
+        if line == "@end" {
+            return Ok(plays);
+        }
+        let play = read_play(alloc, line)?;
+        see_name(alloc, &mut names, play.task.as_str())?;
+        if plays.len() >= PLAY_LIMIT {
+            return Err(ScenarioError::Bad);
+        }
+        plays.push(play)?;
+    }
+    Err(ScenarioError::Bad)
+}
+
+/// The play of a line.
+fn read_play(alloc: Global, line: &str) -> Result<Play, ScenarioError>
+    ensures ok { IfOk result (IsPlayLine line.now) }
+    ensures bad { IsErrOf result ScenarioError.Bad → (play : Play) → IsPlayLine line.now play → ⊥ }
+{
+    let Some((name, digits)) = play_parts(line) else {
+        return Err(ScenarioError::Bad);
+    };
+    if !is_word(name) {
+        return Err(ScenarioError::Bad);
+    }
+    let Some(now) = moment(digits) else {
+        return Err(ScenarioError::Bad);
+    };
+    let task = Text::folded(alloc, name)?;
+    Ok(Play { task, now })
+}
+
+/// The name and the digits of a line `cycle NAME DIGITS -`.
+fn play_parts(line: &str) -> Option<(&str, &str)>
+    ensures { MatchOption result ((name digits : List ℕ) → HasParts line.now name digits → ⊥) (λ parts. HasParts line.now parts.0.now parts.1.now) }
+{
+    line.strip_prefix("cycle ")?
+        .strip_suffix(" -")?
+        .split_once(' ')
+}
+
+/// Whether the text is a letter, then letters and digits.
+fn is_word(text: &str) -> bool
+    ensures { result ≡ words.is_word text.now }
+{
+    match text.as_bytes().split_first() {
+        Some((first, others)) => is_letter(*first) && are_word_characters(others),
+        None => false,
+    }
+}
+
+fn are_word_characters(bytes: &[u8]) -> bool
+    ensures { result ≡ list_all words.is_word_character bytes.now }
+{
+    bytes.iter().all(|b| is_letter(*b) || is_digit(*b))
+}
+
+fn is_letter(b: u8) -> bool
+    ensures { result ≡ words.is_letter b }
+{
+    b.is_ascii_alphabetic() || b == b'_'
+}
+
+fn is_digit(b: u8) -> bool
+    ensures { result ≡ words.is_digit b }
+{
+    b.is_ascii_digit()
+}
+
+/// The number that the digits stand for, if it is one of 32 bits.
+fn moment(digits: &str) -> Option<u32>
+    ensures { SomeIff result ((words.is_number digits.now ≡ true) × (words.number digits.now < 2 ^ 32)) (words.number digits.now) }
+{
+    // `parse` alone would take a sign too.
+    if are_digits(digits.as_bytes()) {
+        digits.parse().ok()
+    } else {
+        None
+    }
+}
+
+fn are_digits(bytes: &[u8]) -> bool
+    ensures { result ≡ list_all words.is_digit bytes.now }
+{
+    bytes.iter().all(|b| is_digit(*b))
+}
+
+/// Adds a name to those seen so far, unless it is one of them.
+fn see_name(alloc: Global, names: &mut Items<Text>, name: &str) -> Result<(), ScenarioError>
+    ensures ok { OnOk result (SeesName names.old name.now names.new) }
+    ensures bad { IsErrOf result ScenarioError.Bad → (IsAmong names.old name.now → ⊥) × (32 ≤ length names.old) }
+{
+    if holds(names.as_slice(), name) {
+        return Ok(());
+    }
+    if names.len() >= NAME_LIMIT {
+        return Err(ScenarioError::Bad);
+    }
+    names.push(Text::copy(alloc, name)?)?;
+    Ok(())
+}
+
+fn holds(names: &[Text], name: &str) -> bool
+    ensures { IsTrue result ↔ IsAmong names.now name.now }
+{
+    names.iter().any(|seen| seen.as_str() == name)
+}
+
+#[cfg(test)]
+mod tests {
+    use super::*;
+    use std::test::Fail;
+
+    #[test]
+    fn reads_the_source_and_the_plays(rt: HostRuntime) -> Result<(), Fail> {
+        let text =
+            b"@program\nPROGRAM p\n\n  x := 1;\n@plays\ncycle Main_1 0007 -\ncycle _ 4294967295 -\n@end\n\n";
+        let scenario = read_scenario(rt.alloc(), text)?;
+        assert_eq!(rt; scenario.program.as_str(), "PROGRAM p\n\n  x := 1;\n");
+        let plays = scenario.plays.as_slice();
+        assert_eq!(rt; plays.len(), 2);
+        assert_eq!(rt; plays[0].task.as_str(), "MAIN_1");
+        assert_eq!(rt; plays[0].now, 7);
+        assert_eq!(rt; plays[1].task.as_str(), "_");
+        assert_eq!(rt; plays[1].now, 4_294_967_295);
+        Ok(())
+    }
+
+    #[test]
+    fn tells_what_is_a_scenario(rt: HostRuntime) {
+        let texts: [(&[u8], bool); 19] = [
+            (b"@program\n@plays\n@end\n", true),
+            (b"@program\n@plays\n@end", true),
+            (b"@program\n\n@plays\ncycle A 00 -\n@end\n\n\n", true),
+            (b"", false),
+            (b"@program", false),
+            (b"@program\n@plays\n", false),
+            (b"\n@program\n@plays\n@end\n", false),
+            (b"@program\n@plays\n@end\nx", false),
+            (b"@program\n@plays\n@end\n ", false),
+            (b"@program\n@source\n@plays\n@end\n", false),
+            (b"@program\n@plays\n\n@end\n", false),
+            (b"@program\n@plays\ncycle  MAIN 0 -\n@end\n", false),
+            (b"@program\n@plays\ncycle MAIN 0 - \n@end\n", false),
+            (b"@program\n@plays\ncycle MAIN 4294967296 -\n@end\n", false),
+            (b"@program\n@plays\ncycle MAIN +1 -\n@end\n", false),
+            (b"@program\n@plays\ncycle MAIN  -\n@end\n", false),
+            (b"@program\n@plays\ncycle 1A 0 -\n@end\n", false),
+            (b"@program\r\n@plays\n@end\n", false),
+            (b"@program\n\xc8\n@plays\n@end\n", false),
+        ];
+        for (text, good) in texts {
+            let read = read_scenario(rt.alloc(), text);
+            assert_eq!(rt; read.is_ok(), good, "at {text:?}");
+        }
+    }
+
+    fn plays_of_tasks(alloc: Global, count: u32) -> Result<String, AllocError> {
+        let mut text = String::from_str(alloc, "@program\n@plays\n")?;
+        for task in 0..count {
+            text.push_str(format!(in alloc; "cycle T{task} 0 -\ncycle t{task} 1 -\n")?.as_str())?;
+        }
+        text.push_str("@end\n")?;
+        Ok(text)
+    }
+
+    #[test]
+    fn plays_name_few_tasks(rt: HostRuntime) -> Result<(), Fail> {
+        for (count, good) in [(32, true), (33, false)] {
+            let text = plays_of_tasks(rt.alloc(), count)?;
+            let read = read_scenario(rt.alloc(), text.as_bytes());
+            assert_eq!(rt; read.is_ok(), good, "at {count} tasks");
+        }
+        Ok(())
+    }
+}

@@ -1,0 +1,7 @@
+pub mod Faults
+pub mod Told
+pub mod Source
+pub mod Sink
+pub mod Reading
+pub mod Calls
+pub mod Memory

@@ -1,0 +1,22 @@
+//! Text, places in a source, and the two ways in which a call is refused: by a rule, or for want of
+//! memory.
+#![tactic(auto)]
+
+mod code;
+mod denied;
+mod fault;
+mod lines;
+mod memory;
+mod refusal;
+#[cfg(test)]
+mod tests;
+mod text;
+
+pub use code::Code;
+pub use denied::Denied;
+pub use fault::{Fault, FaultKind};
+pub use lines::{Span, line_of};
+pub use memory::NoMemory;
+pub use refusal::Refusal;
+pub use sqlite_items::{Boxed, Items};
+pub use text::Text;
