@@ -1,5 +1,5 @@
 -- From the parts to what the program answers.
-use Rattle.std.proofs.Common.{◌≡◌, ℕ, ◌<◌, ◌≤◌, List, [], ◌∷◌, ◌++◌, length, refl, sym, ap, subst, ◌∙◌, get_or, Option, None, Some, IfSome, arith, Result, IfErr}
+use Rattle.std.proofs.Common.{◌≡◌, ℕ, ◌≤◌, List, [], ◌∷◌, length, sym, ap, subst, ◌∙◌, get_or, Option, None, Some, IfSome, arith, Result, IfErr}
 use Rattle.plc_io.specs.Told.{WhereTold}
 use Rattle.plc_console.specs.declared.plc.Status.{Status}
 use Rattle.plc_console.specs.declared.plc.Status.TheVariants.{Done, Refused, Usage, Script, ReadFault, WriteFault, NoMemory, TooLong}
@@ -7,11 +7,9 @@ use Rattle.plc_console.specs.Answers.{Answers, OnAnswer, IsResponse, IsUncut, Is
 use Rattle.std.proofs.lemmas.Result.{IfErr-weaker}
 use Rattle.st_reader.specs.declared.unit.Unit.{Unit as ProgramText}
 use Rattle.plc_console.specs.declared.program.Program.{Program}
-use Rattle.plc_console.specs.declared.scenario.Scenario.{Scenario}
-use Rattle.plc_console.specs.declared.journal.Entry.{Entry}
 use Rattle.st_reader.specs.declared.source_error.SourceError.{SourceError}
 use Rattle.st_reader.specs.Grammar.{Reads}
-use Rattle.plc_console.specs.Accepted.{Accepted, IsGood, program_of}
+use Rattle.plc_console.specs.Accepted.{Accepted, IsGood}
 use Rattle.st_reader.specs.SourceError.{OnRefused}
 use Rattle.st_reader.proofs.SpellingLaws.{reads_one, on_refused_weaker}
 

@@ -1,15 +1,13 @@
 -- Texts and numbers as the checker sees them.
-use Rattle.std.proofs.Common.{◌≡◌, ◌≢◌, ℕ, zero, suc, ◌+◌, ◌-◌, ◌*◌, ◌<◌, ◌≤◌, Bool, true, false, ◌&&◌, not, List, [], ◌∷◌, ◌++◌, length, take, drop, map, get_or, refl, sym, ap, subst, ◌∙◌, append_assoc, length-append, length-drop, codes, ◌⊎◌, inl, inr, Option, None, Some, arith}
+use Rattle.std.proofs.Common.{◌≡◌, ℕ, ◌+◌, ◌-◌, ◌*◌, ◌<◌, ◌≤◌, Bool, true, false, not, List, [], ◌∷◌, ◌++◌, length, take, drop, get_or, refl, sym, ap, subst, ◌∙◌, append_assoc, length-drop, codes, inl, inr, Some, arith}
 use Rattle.st_reader.specs.declared.unit.Variable.{Variable}
-use Rattle.plc_console.specs.declared.program.Cell.{Cell}
 use Rattle.plc_console.specs.Among.{IsAmong, AreDistinct}
-use Rattle.plc_console.specs.Accepted.{names_of, addresses_of, number_of}
+use Rattle.plc_console.specs.Accepted.{names_of, number_of}
 use Rattle.std.proofs.lemmas.Bool.{both_ways, or_cases, or_left, or_right, eqb-true, eq-eqb, not-true, not-false, cond-false}
 use Rattle.std.specs.Bool.{if◌then◌else◌}
-use Rattle.std.proofs.lemmas.List.{take_all, take-append-drop, take_more, drop_more, map-append, append-nil}
-use Rattle.std.proofs.lemmas.List.Elements.{filter_map-append}
+use Rattle.std.proofs.lemmas.List.{take_all, take-append-drop, take_more, drop_more, map-append}
 use Rattle.std.proofs.Math.Seq.{take-append_seam}
-use Rattle.std.specs.List.{fold, starts_with, list_any, cons_option, position}
+use Rattle.std.specs.List.{fold, starts_with, list_any, position}
 use Rattle.std.specs.Option.{unwrap_or}
 use Rattle.std.proofs.lemmas.List.Sums.{fold-append, fold_more}
 use Rattle.std.specs.Bool.{nat_eq}

@@ -1,5 +1,5 @@
 -- Which texts are programs, and which program each is (IEC 61131-3:2013, 6.5 and 6.6).
-use Rattle.std.specs.Prelude.{◌≡◌, ℕ, zero, suc, ◌<◌, ◌≤◌, ◌^◌, ℤ, pos, Bool, true, false, not, ◌&&◌, List, [], ◌∷◌, ◌++◌, length, map, codes, Option, Some, None, if◌then◌else◌}
+use Rattle.std.specs.Prelude.{◌≡◌, ℕ, ◌<◌, ◌≤◌, ◌^◌, ℤ, pos, Bool, false, not, ◌&&◌, List, [], ◌∷◌, ◌++◌, length, map, codes}
 use Rattle.std.specs.Option.{option_map, unwrap_or}
 use Rattle.std.specs.List.{AllByRecursion, list_any, filter_map, position}
 use Rattle.st_reader.specs.declared.unit.Unit.{Unit as ProgramText}

@@ -1,5 +1,5 @@
 -- What a program means: values, effects, cycles (IEC 61131-3:2013, 6.6 and 7.3).
-use Rattle.std.specs.Prelude.{◌≡◌, ℕ, zero, suc, ◌+◌, max, ℤ, pos, Bool, false, nat_eq, List, [], ◌∷◌, ◌++◌, length, map, slice_index_or, slice_set, Option, Some, None, if◌then◌else◌}
+use Rattle.std.specs.Prelude.{◌≡◌, ℕ, suc, max, ℤ, pos, Bool, false, nat_eq, List, [], ◌∷◌, length, map, slice_index_or, slice_set, Option, Some, None, if◌then◌else◌}
 use Rattle.std.specs.List.{flat_map, range_with_len}
 use Rattle.std.specs.Int.{w32, int_wrapping_add, int_wrapping_sub, cast_unsigned, to_le_bytes}
 use Rattle.st_reader.specs.declared.unit.Statement.{Statement}

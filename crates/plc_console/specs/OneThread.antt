@@ -1,5 +1,5 @@
 -- A journal as a run of the source's meaning on one thread.
-use Rattle.std.specs.Prelude.{◌≡◌, ◌≢◌, ℕ, List, [], ◌∷◌, length, map, Option, Some}
+use Rattle.std.specs.Prelude.{◌≡◌, ◌≢◌, List, [], ◌∷◌, length, map, Some}
 use Rattle.std.specs.List.{range_with_len}
 use Rattle.plc_console.specs.declared.scenario.Scenario.{Scenario}
 use Rattle.plc_console.specs.declared.scenario.Play.{Play}

@@ -1,5 +1,5 @@
 -- The form of a scenario.
-use Rattle.std.specs.Prelude.{◌≡◌, ◌≢◌, ℕ, ◌<◌, ◌≤◌, ◌^◌, true, List, [], ◌∷◌, ◌++◌, length, map, codes, replicate}
+use Rattle.std.specs.Prelude.{◌≡◌, ◌≢◌, ℕ, ◌<◌, ◌≤◌, ◌^◌, true, List, [], ◌∷◌, ◌++◌, length, codes, replicate}
 use Rattle.std.specs.List.{AllByRecursion}
 use Rattle.plc_text.specs.Text.{folded}
 use Rattle.plc_console.specs.declared.scenario.Scenario.{Scenario}

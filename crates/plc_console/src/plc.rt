@@ -195,3 +195,6 @@ pub fn plc<R: Threads + Wait + Sync, S: Source, K: Sink, G: Gate + Sync>(
         _ => Status::Usage,
     }
 }
+
+#[cfg(test)]
+mod tests;

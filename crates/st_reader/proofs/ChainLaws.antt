@@ -1,5 +1,5 @@
 -- A text is one chain of longest pieces.
-use Rattle.std.proofs.Common.{◌≡◌, ℕ, zero, suc, ◌+◌, ◌-◌, ◌<◌, ◌≤◌, Bool, true, false, ◌||◌, max, List, [], ◌∷◌, ◌++◌, length, take, drop, get_or, refl, sym, ap, subst, ◌∙◌, append_assoc, length-append, length-take, inl, inr, map, Option, None, Some, arith}
+use Rattle.std.proofs.Common.{◌≡◌, ℕ, ◌<◌, ◌≤◌, true, false, List, [], ◌∷◌, ◌++◌, length, take, drop, refl, sym, ap, subst, ◌∙◌, length-append, length-take, inl, inr, map, Option, None, Some, arith}
 use Rattle.std.proofs.lemmas.List.{map-append, append-nil}
 use Rattle.st_reader.specs.declared.lexer.Token.{Token as Lexed}
 use Rattle.st_reader.specs.TokenView.{token_view}

@@ -4,7 +4,7 @@ use Rattle.std.proofs.lemmas.List.{take_all}
 use Rattle.std.proofs.lemmas.Bool.{eqb-true}
 use Rattle.std.specs.List.{list_all}
 use Rattle.std.proofs.lemmas.Bool.{and_parts, and_from, and_left, and_right, or_parts, or_from, or_left, or_right, both_ways, false_from_ne_true, cases_lt, cases_eq, eq-eqb, ne_eqb}
-use Rattle.st_reader.specs.Words.{is_digit, is_letter, is_word_character, is_word, is_number}
+use Rattle.st_reader.specs.Words.{is_letter, is_word_character, is_word, is_number}
 use Rattle.st_reader.specs.Tokens.{is_output, is_symbol, same}
 use Rattle.st_reader.specs.Fronts.{IsRun, IsLongestFront}
 

@@ -1,21 +1,16 @@
 -- What is read is what the grammar spells, and what it spells is read again.
-use Rattle.std.proofs.Common.{◌≡◌, ℕ, suc, ◌+◌, ◌<◌, Bool, true, false, List, [], ◌∷◌, ◌++◌, length, refl, sym, ap, subst, ◌∙◌, codes, append_assoc, Option, None, Some, ◌⊎◌, inl, inr, arith}
-use Rattle.std.specs.List.{flat_map}
+use Rattle.std.proofs.Common.{◌≡◌, Bool, true, false, List, [], ◌∷◌, ◌++◌, refl, sym, ap, ◌∙◌, codes, append_assoc, Option, None, Some, ◌⊎◌, inl, inr}
 use Rattle.std.specs.Bool.{if◌then◌else◌}
-use Rattle.std.proofs.lemmas.Bool.{cases_Bool}
-use Rattle.st_reader.specs.declared.unit.Unit.{Unit as ProgramText}
 use Rattle.st_reader.specs.declared.unit.Variable.{Variable}
 use Rattle.st_reader.specs.declared.unit.Configuration.{Configuration}
-use Rattle.st_reader.specs.declared.unit.Statement.{Statement}
-use Rattle.st_reader.specs.declared.unit.Sum.{Sum}
 use Rattle.st_reader.specs.declared.unit.Tail.{Tail}
 use Rattle.st_reader.specs.declared.unit.Operator.{Operator}
 use Rattle.st_reader.specs.declared.unit.Operator.TheVariants.{Plus, Minus}
 use Rattle.st_reader.specs.declared.unit.Item.{Item}
 use Rattle.st_reader.specs.declared.unit.Item.TheVariants as item
-use Rattle.st_reader.specs.Tokens.{Token, Keyword, Name, Number, Output, Symbol, same}
-use Rattle.st_reader.specs.Grammar.{Spelling, address_tokens, initial_tokens, variable_tokens, operator_token, item_token, tail_tokens, sum_tokens, statement_tokens, configuration_tokens, unit_tokens}
-use Rattle.st_reader.specs.Reading.{Reading, ◌>>=◌, begins_keyword, begins_symbol, behind, read_keyword, read_symbol, read_name, read_number, read_output, read_given_address, read_address, read_given_initial, read_initial, read_variable, read_operator, read_item, read_tail, read_assignment, read_task, read_instance, read_configuration, read_heading}
+use Rattle.st_reader.specs.Tokens.{Token, Keyword, Name, Number, Output, Symbol}
+use Rattle.st_reader.specs.Grammar.{Spelling, address_tokens, initial_tokens, variable_tokens, operator_token, item_token, tail_tokens, configuration_tokens}
+use Rattle.st_reader.specs.Reading.{◌>>=◌, begins_keyword, begins_symbol, behind, read_keyword, read_symbol, read_name, read_number, read_output, read_given_address, read_address, read_given_initial, read_initial, read_variable, read_operator, read_item, read_tail, read_assignment, read_task, read_instance, read_configuration, read_heading}
 use Rattle.st_reader.proofs.TextLaws.{same-true}
 
 bind_some : {X Y : Type 0} (o : Option X) (f : X → Option Y) (y : Y) → (o >>= f) ≡ Some y → (x : X) × (o ≡ Some x) × (f x ≡ Some y)

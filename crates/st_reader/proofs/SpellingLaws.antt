@@ -1,27 +1,24 @@
 -- Lists of parts, up to a token that begins none.
-use Rattle.std.proofs.Common.{◌≡◌, ℕ, suc, ◌+◌, ◌<◌, List, [], ◌∷◌, ◌++◌, length, refl, sym, ap, subst, ◌∙◌, codes, append_assoc, length-append, Bool, true, false, Option, None, Some, Result, Ok, Err, arith}
+use Rattle.std.proofs.Common.{◌≡◌, ℕ, ◌<◌, List, [], ◌∷◌, ◌++◌, length, refl, sym, ap, subst, ◌∙◌, codes, append_assoc, length-append, false, None, Some, Err, arith}
 use Rattle.std.proofs.lemmas.Grind.{flat_map-append}
 use Rattle.std.proofs.lemmas.Bool.{both_ways}
 use Rattle.std.proofs.lemmas.List.{append-nil}
 use Rattle.st_reader.specs.declared.source_error.SourceError.{SourceError}
 use Rattle.st_reader.specs.declared.source_error.SourceError.TheVariants as errors
-use Rattle.st_reader.specs.declared.unit.Operator.{Operator}
-use Rattle.st_reader.specs.declared.unit.Operator.TheVariants.{Plus, Minus}
 use Rattle.std.specs.List.{flat_map}
 use Rattle.st_reader.specs.declared.unit.Unit.{Unit as ProgramText}
 use Rattle.st_reader.specs.declared.unit.Variable.{Variable}
 use Rattle.st_reader.specs.declared.unit.Configuration.{Configuration}
 use Rattle.st_reader.specs.declared.unit.Statement.{Statement}
-use Rattle.st_reader.specs.declared.unit.Sum.{Sum}
 use Rattle.st_reader.specs.declared.unit.Tail.{Tail}
 use Rattle.st_reader.specs.declared.unit.Item.{Item}
 use Rattle.plc_text.specs.Text.{folded}
 use Rattle.st_reader.specs.Tokens.{Token, Tokens, Keyword, Name, Symbol}
-use Rattle.st_reader.specs.Grammar.{Spelling, Reads, variable_tokens, item_token, tail_tokens, sum_tokens, statement_tokens, configuration_tokens, unit_tokens}
-use Rattle.st_reader.specs.Reading.{Reading, Gives, NoList, NoPart, Lists, Begins, begins_keyword, begins_symbol, read_variable, read_item, read_operator, read_tail, read_assignment, read_configuration, read_heading}
+use Rattle.st_reader.specs.Grammar.{Spelling, Reads, variable_tokens, item_token, tail_tokens, statement_tokens, configuration_tokens, unit_tokens}
+use Rattle.st_reader.specs.Reading.{Reading, Gives, NoList, NoPart, Lists, Begins, begins_keyword, begins_symbol, read_variable, read_operator, read_tail, read_assignment, read_configuration, read_heading}
 use Rattle.st_reader.specs.SourceError.{OnRefused}
 use Rattle.st_reader.proofs.ChainLaws.{one_tokens}
-use Rattle.st_reader.proofs.ReadingLaws.{pair_is, assignment_is, assignment_read, variable_is, tail_is, variable_read, tail_read, item_read, heading_is, heading_read, configuration_is, configuration_read}
+use Rattle.st_reader.proofs.ReadingLaws.{pair_is, assignment_is, assignment_read, variable_is, tail_is, variable_read, tail_read, heading_is, heading_read, configuration_is, configuration_read}
 
 module _ {X : Type 0} (spell : X → List Token) (last : Token) (one : (x y : X) (r s : List Token) → spell x ++ r ≡ spell y ++ s → (x ≡ y) × (r ≡ s)) (apart : (x : X) (r s : List Token) → spell x ++ r ≡ last ∷ s → ⊥) where
   -- the parts before the last token, and what is behind it

@@ -1,5 +1,5 @@
 -- The grammar: the tokens of each part, in order.
-use Rattle.std.specs.Prelude.{◌≡◌, ℕ, List, [], ◌∷◌, ◌++◌, Option, Some, None, codes}
+use Rattle.std.specs.Prelude.{ℕ, List, [], ◌∷◌, ◌++◌, Option, Some, None, codes}
 use Rattle.std.specs.List.{flat_map}
 use Rattle.plc_text.specs.Text.{folded}
 use Rattle.st_reader.specs.declared.unit.Unit.{Unit as ProgramText}

@@ -1,6 +1,6 @@
 -- Reading a unit from the front of a list of tokens: what each private function of the parser does. The grammar itself is
 -- specs/Grammar.antt; the laws in proofs/ say that this reads exactly what that spells.
-use Rattle.std.specs.Prelude.{◌≡◌, ℕ, Bool, true, false, List, [], ◌∷◌, ◌++◌, codes, Option, Some, None, Result, Ok, Err, if◌then◌else◌}
+use Rattle.std.specs.Prelude.{◌≡◌, Bool, false, List, [], ◌∷◌, ◌++◌, codes, Option, Some, None, Result, Ok, Err, if◌then◌else◌}
 use Rattle.std.specs.List.{flat_map}
 use Rattle.st_reader.specs.declared.unit.Variable.{Variable}
 use Rattle.st_reader.specs.declared.unit.Configuration.{Configuration}

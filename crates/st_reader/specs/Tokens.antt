@@ -2,7 +2,7 @@
 use Rattle.std.specs.Prelude.{◌≡◌, ℕ, ◌≤◌, Bool, true, false, ◌&&◌, ◌||◌, nat_eq, List, [], ◌∷◌, ◌++◌, length, take, drop, codes, Option, Some, None, if◌then◌else◌}
 use Rattle.std.specs.List.{list_any, filter_map}
 use Rattle.std.specs.Str.{bytes_eq}
-use Rattle.st_reader.specs.Words.{is_digit, is_letter, is_word, is_number}
+use Rattle.st_reader.specs.Words.{is_word, is_number}
 
 -- a token without its place
 pub data Token : Type 0 where

@@ -1,4 +1,4 @@
-use Rattle.std.proofs.Common.{sym, ◌∙◌, ap, rules}
+use Rattle.std.proofs.Common.{sym}
 use Rattle.plc_console.proofs.CheckLaws.{not_known, known}
 use Rattle.plc_console.proofs.check.number_of.Goals as goal
 

@@ -1,4 +1,4 @@
-use Rattle.std.proofs.Common.{◌≡◌, ◌∙◌, ℕ, List, length, codes, sym, arith, rules}
+use Rattle.std.proofs.Common.{◌≡◌, length, codes, arith, rules}
 use Rattle.plc_console.proofs.AnswerLaws.{one_word}
 use Rattle.plc_console.proofs.plc.plc.Goals as goal
 

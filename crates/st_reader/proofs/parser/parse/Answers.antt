@@ -1,4 +1,4 @@
-use Rattle.std.proofs.Common.{sym, ◌∙◌, subst}
+use Rattle.std.proofs.Common.{◌∙◌}
 use Rattle.std.proofs.lemmas.Result.{err_from_is_err_and}
 use Rattle.st_reader.proofs.SpellingLaws.{on_refused_weaker, not_unit, no_tokens, tokens_at}
 use Rattle.st_reader.proofs.parser.parse.Goals as goal

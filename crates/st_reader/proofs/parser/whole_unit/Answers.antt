@@ -1,4 +1,4 @@
-use Rattle.std.proofs.Common.{sym, ◌∙◌, rules}
+use Rattle.std.proofs.Common.{◌∙◌}
 use Rattle.std.proofs.lemmas.Result.{err_from_is_err_and}
 use Rattle.st_reader.proofs.SpellingLaws.{on_refused_weaker, no_whole, more_than_whole}
 use Rattle.st_reader.proofs.parser.whole_unit.Goals as goal
