@@ -31,6 +31,10 @@ text_from_plain bytes (Err e) Q h plain = absurd (h.0 (IsUtf8-from_ascii bytes (
 pub numerals : IsNumeralModel (λ ds. list_all is_digit ds ≡ true) number
 numerals = numerals_by_fold _ (search rules) (λ n ds. fold (λ m c. 10 * m + (c - 48)) n ds) (search rules)
 
+pub all_digits : (digits : List ℕ) → is_number digits ≡ true → list_all is_digit digits ≡ true
+all_digits [] h = absurd cc
+all_digits (c ∷ cs) h = h
+
 pub moment_from : {E : Type 0} (digits : List ℕ) (r : Result ℕ E) → OkIff r ((0 < length digits) × (number digits < 2 ^ 32)) (number digits) → list_all is_digit digits ≡ true
     → SomeIff (result_ok r) ((is_number digits ≡ true) × (number digits < 2 ^ 32)) (number digits)
 moment_from [] (Ok n) h all = absurd (omega (arith, h.0.0))

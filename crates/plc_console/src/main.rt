@@ -15,17 +15,29 @@ use plc_io::{StdSink, StdSource};
 use plc_text::{NoMemory, Text};
 use std::alloc::Global;
 use std::env;
-use std::env::Env;
+use std::env::{Args, Env};
+use std::io::ErrorKind;
 use std::process::ExitCode;
 
 /// The words after the program's name.
-fn words<R: Env + Alloc<A = Global>>(rt: &R) -> Result<Vec<Text>, NoMemory> {
-    let mut words = Vec::new(rt.alloc());
-    let args = env::args(rt).map_err(|_| NoMemory)?;
+///
+/// # Errors
+///
+/// `Usage` where a word is not UTF-8, since no command has such a word, and `NoMemory`.
+fn words<R: Env + Alloc<A = Global>>(rt: &R) -> Result<Vec<Text>, Status> {
+    let args = env::args(rt).map_err(|error| match error.kind() {
+        ErrorKind::OutOfMemory => Status::NoMemory,
+        _ => Status::Usage,
+    })?;
+    texts(rt.alloc(), args).map_err(|_| Status::NoMemory)
+}
+
+fn texts(alloc: Global, args: Args) -> Result<Vec<Text>, NoMemory> {
+    let mut texts = Vec::new(alloc);
     for arg in args.skip(1) {
-        words.push(Text::copy(rt.alloc(), arg.as_str())?)?;
+        texts.push(Text::copy(alloc, arg.as_str())?)?;
     }
-    Ok(words)
+    Ok(texts)
 }
 
 fn main(rt: HostRuntime) -> ExitCode {
@@ -42,7 +54,7 @@ fn main(rt: HostRuntime) -> ExitCode {
                 &OpenGate,
             )
         }
-        Err(NoMemory) => Status::NoMemory,
+        Err(status) => status,
     };
     if status != Status::Done {
         let _ = eprintln!(rt; "plc: {}", status.name());

@@ -1,5 +1,5 @@
 ghost use Rattle.std.specs.Prelude.{◌≡◌, ◌↔◌, ℕ, ◌<◌, ◌≤◌, ◌^◌, true, List, [], ◌∷◌, length, IsTrue, IfOk, OnOk, IsErrOf, MatchOption, SomeIff};
-ghost use Rattle.std.specs.List.{AllByRecursion, list_all};
+ghost use Rattle.std.specs.List.{AllByRecursion};
 ghost use Rattle.plc_console.specs.declared.scenario.Scenario.{Scenario};
 ghost use Rattle.plc_console.specs.declared.scenario.Play.{Play};
 ghost use Rattle.st_reader.specs.Words as words;
@@ -10,6 +10,7 @@ ghost use Rattle.plc_console.specs.ScenarioReading.{IsSource, ArePlays, AreEmpty
 ghost use Rattle.plc_console.specs.declared.scenario.ScenarioError.TheVariants as errors;
 
 use plc_text::{Items, NoMemory, Text};
+use st_reader::words::{is_number, is_word};
 use std::alloc::{AllocError, Global};
 use std::marker::Model;
 use std::str;
@@ -208,7 +209,7 @@ fn read_play(alloc: Global, line: &str) -> Result<Play, ScenarioError>
     let Some((name, digits)) = play_parts(line) else {
         return Err(ScenarioError::Bad);
     };
-    if !is_word(name) {
+    if !is_word(name.as_bytes()) {
         return Err(ScenarioError::Bad);
     }
     let Some(now) = moment(digits) else {
@@ -227,50 +228,16 @@ fn play_parts(line: &str) -> Option<(&str, &str)>
         .split_once(' ')
 }
 
-/// Whether the text is a letter, then letters and digits.
-fn is_word(text: &str) -> bool
-    ensures { result ≡ words.is_word text.now }
-{
-    match text.as_bytes().split_first() {
-        Some((first, others)) => is_letter(*first) && are_word_characters(others),
-        None => false,
-    }
-}
-
-fn are_word_characters(bytes: &[u8]) -> bool
-    ensures { result ≡ list_all words.is_word_character bytes.now }
-{
-    bytes.iter().all(|b| is_letter(*b) || is_digit(*b))
-}
-
-fn is_letter(b: u8) -> bool
-    ensures { result ≡ words.is_letter b }
-{
-    b.is_ascii_alphabetic() || b == b'_'
-}
-
-fn is_digit(b: u8) -> bool
-    ensures { result ≡ words.is_digit b }
-{
-    b.is_ascii_digit()
-}
-
 /// The number that the digits stand for, if it is one of 32 bits.
 fn moment(digits: &str) -> Option<u32>
     ensures { SomeIff result ((words.is_number digits.now ≡ true) × (words.number digits.now < 2 ^ 32)) (words.number digits.now) }
 {
     // `parse` alone would take a sign too.
-    if are_digits(digits.as_bytes()) {
+    if is_number(digits.as_bytes()) {
         digits.parse().ok()
     } else {
         None
     }
-}
-
-fn are_digits(bytes: &[u8]) -> bool
-    ensures { result ≡ list_all words.is_digit bytes.now }
-{
-    bytes.iter().all(|b| is_digit(*b))
 }
 
 /// Adds a name to those seen so far, unless it is one of them.

@@ -1,5 +1,5 @@
 ghost use Rattle.std.specs.Prelude.{◌≡◌, ℕ, true, List, [], ◌∷◌, length, IfOk, IfErr, map};
-ghost use Rattle.st_reader.specs.Words.{is_digit as is_digit_of, is_letter as is_letter_of, is_word_character as is_word_character_of, is_word as is_word_of, is_number as is_number_of};
+ghost use Rattle.st_reader.specs.Words as words_spec;
 ghost use Rattle.st_reader.specs.Tokens.{is_blank as is_blank_of, is_white_space as is_white_space_of, is_output as is_output_of, is_symbol, is_keyword as is_keyword_of, is_piece, token_of as token_spelled, Tokens, Token as PlainToken};
 ghost use Rattle.std.specs.Option.{option_map};
 ghost use Rattle.std.specs.Str.{IsAscii};
@@ -8,6 +8,7 @@ ghost use Rattle.st_reader.specs.SourceError.{OnRefused};
 ghost use Rattle.st_reader.specs.Fronts.{IsRun, IsLongestFront};
 
 use crate::source_error::SourceError;
+use crate::words::{is_digit, is_letter, is_number, is_word, is_word_character};
 use std::alloc::Global;
 use std::str;
 
@@ -120,24 +121,6 @@ const KEYWORDS: [&str; 95] = [
     "XOR",
 ];
 
-fn is_digit(c: u8) -> bool
-    ensures { result ≡ is_digit_of c }
-{
-    b'0' <= c && c <= b'9'
-}
-
-fn is_letter(c: u8) -> bool
-    ensures { result ≡ is_letter_of c }
-{
-    b'A' <= c && c <= b'Z' || b'a' <= c && c <= b'z' || c == b'_'
-}
-
-fn is_word_character(c: u8) -> bool
-    ensures { result ≡ is_word_character_of c }
-{
-    is_letter(c) || is_digit(c)
-}
-
 fn is_blank(c: u8) -> bool
     ensures { result ≡ is_blank_of c }
 {
@@ -146,7 +129,7 @@ fn is_blank(c: u8) -> bool
 
 /// How many digits stand at the front.
 fn digits_len(text: &[u8]) -> usize
-    ensures { IsRun is_digit_of text.now result }
+    ensures { IsRun words_spec.is_digit text.now result }
 {
     for (i, c) in text.iter().enumerate() {
         if !is_digit(*c) {
@@ -158,7 +141,7 @@ fn digits_len(text: &[u8]) -> usize
 
 /// How many letters and digits stand at the front.
 fn word_characters_len(text: &[u8]) -> usize
-    ensures { IsRun is_word_character_of text.now result }
+    ensures { IsRun words_spec.is_word_character text.now result }
 {
     for (i, c) in text.iter().enumerate() {
         if !is_word_character(*c) {
@@ -179,7 +162,7 @@ fn white_space_len(text: &[u8]) -> usize
 }
 
 fn word_len(text: &[u8]) -> usize
-    ensures { IsLongestFront is_word_of text.now result }
+    ensures { IsLongestFront words_spec.is_word text.now result }
 {
     if !text.is_empty() && is_letter(text[0]) {
         word_characters_len(text)
@@ -189,7 +172,7 @@ fn word_len(text: &[u8]) -> usize
 }
 
 fn number_len(text: &[u8]) -> usize
-    ensures { IsLongestFront is_number_of text.now result }
+    ensures { IsLongestFront words_spec.is_number text.now result }
 {
     digits_len(text)
 }
@@ -235,18 +218,6 @@ fn is_white_space(piece: &[u8]) -> bool
     ensures { result ≡ is_white_space_of piece.now }
 {
     !piece.is_empty() && white_space_len(piece) == piece.len()
-}
-
-fn is_word(piece: &[u8]) -> bool
-    ensures { result ≡ is_word_of piece.now }
-{
-    !piece.is_empty() && word_len(piece) == piece.len()
-}
-
-fn is_number(piece: &[u8]) -> bool
-    ensures { result ≡ is_number_of piece.now }
-{
-    !piece.is_empty() && number_len(piece) == piece.len()
 }
 
 fn is_output(piece: &[u8]) -> bool

@@ -6,5 +6,6 @@ mod lexer;
 mod parser;
 pub mod source_error;
 pub mod unit;
+pub mod words;
 
 pub use parser::{one_reading, parse};
