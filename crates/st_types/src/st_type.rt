@@ -7,7 +7,7 @@ use std::alloc::{AllocError, Global};
 /// The type of a variable or an expression. A number is that of a declaration. Two types are one exactly where they
 /// are equal as trees.
 #[cycle(types)]
-#[derive(Drop)]
+#[derive(Debug, Drop)]
 pub enum StType {
     Elementary(Elem),
     Enumeration(u32),
