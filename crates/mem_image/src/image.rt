@@ -1,0 +1,97 @@
+ghost use Rattle.std.specs.Prelude.{◌≡◌, ◌+◌, ◌≤◌, ◌↔◌, [], length, replicate, slice_range, IsTrue, IfOk};
+ghost use Rattle.std.specs.Borrow.{sem};
+ghost use Rattle.mem_image.specs.Images.{replaced};
+ghost use Rattle.mem_image.specs.Lending.{LendsPart};
+
+use plc_text::NoMemory;
+use std::alloc::Global;
+use std::marker::Model;
+
+/// The bytes of a region, as many as when it was made. A contract sees it as the list of them.
+#[derive(Debug, Drop)]
+pub struct Image {
+    bytes: Vec<u8>,
+}
+
+impl Model for Image {
+    ghost use Rattle.std.specs.Prelude.{ℕ, List, ◌^◌, ◌<◌, length};
+
+    ghost Value = { List ℕ };
+
+    ghost view = { λ a. a.bytes.items };
+
+    ghost invariant = { λ a. length a.bytes.items < 2 ^ 32 };
+}
+
+impl Image {
+    /// An image of that many bytes, each of them 0.
+    pub fn new(alloc: Global, bytes: u32) -> Result<Image, NoMemory>
+        ensures { IfOk result (λ image. image ≡ replicate bytes 0) }
+    {
+        let bytes = vec![in alloc; 0; bytes as usize]?;
+        Ok(Image { bytes })
+    }
+
+    /// How many bytes there are.
+    pub fn len(&self) -> u32
+        ensures { result ≡ length self.now }
+    {
+        self.bytes.len() as u32
+    }
+
+    pub fn is_empty(&self) -> bool
+        ensures { IsTrue result ↔ (self.now ≡ []) }
+    {
+        self.bytes.is_empty()
+    }
+
+    /// The `len` bytes from the offset on.
+    pub fn part(&self, offset: u32, len: u32) -> &[u8]
+        requires { offset + len ≤ length self.now }
+        ensures { result.now ≡ slice_range self.now offset (offset + len) }
+    {
+        let start = offset as usize;
+        &self.bytes.as_slice()[start..start + len as usize]
+    }
+
+    /// The `len` bytes from the offset on, to be written.
+    pub fn part_mut(&mut self, offset: u32, len: u32) -> &mut [u8]
+        requires { offset + len ≤ length self.old }
+        ensures* writes_back { sem 𝓛 (LendsPart self.entry offset result) }
+        ensures value { result.now ≡ slice_range self.old offset (offset + len) }
+    {
+        let start = offset as usize;
+        let end = start + len as usize;
+        self.bytes.slice_mut(start..end)
+    }
+
+    /// Writes the bytes over those from `to` on.
+    pub fn fill_from(&mut self, to: u32, bytes: &[u8])
+        requires { to + length bytes.now ≤ length self.old }
+        ensures { self.new ≡ replaced self.old to bytes.now }
+    {
+        let start = to as usize;
+        let end = start + bytes.len();
+        self.bytes[start..end].copy_from_slice(bytes);
+    }
+
+    /// Writes the `len` bytes from `from` on over those from `to` on, also where the two overlap: what is written is
+    /// what stood there before the call.
+    pub fn copy_within_image(&mut self, to: u32, from: u32, len: u32)
+        requires target { to + len ≤ length self.old }
+        requires source { from + len ≤ length self.old }
+        ensures { self.new ≡ replaced self.old to (slice_range self.old from (from + len)) }
+    {
+        let start = from as usize;
+        self.bytes.copy_within(start..start + len as usize, to as usize);
+    }
+
+    /// Writes the `len` bytes of the other image from `from` on over those from `to` on.
+    pub fn copy_from(&mut self, to: u32, source: &Image, from: u32, len: u32)
+        requires target { to + len ≤ length self.old }
+        requires source { from + len ≤ length source.now }
+        ensures { self.new ≡ replaced self.old to (slice_range source.now from (from + len)) }
+    {
+        self.fill_from(to, source.part(from, len));
+    }
+}

@@ -1,0 +1,10 @@
+//! Images: the bytes that hold a program's values, packed from the start. Cycles, the machine, the process image
+//! and the migrator read and write them.
+#![tactic(auto)]
+
+mod at;
+mod image;
+mod words;
+
+pub use at::At;
+pub use image::Image;
