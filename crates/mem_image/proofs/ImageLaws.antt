@@ -48,3 +48,4 @@ copied xs new old to from len same copy target source =
     let size : length (slice_range old from (from + len)) ≡ len = length-range old from len source in
     let short : from + len - from ≡ len = omega arith in
     copy ∙ rw (same, replaced_is old to (slice_range old from (from + len)) (omega (arith, size)), size, short) refl
+

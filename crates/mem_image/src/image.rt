@@ -1,9 +1,12 @@
 ghost use Rattle.std.specs.Prelude.{◌≡◌, ◌+◌, ◌≤◌, ◌↔◌, [], length, replicate, slice_range, IsTrue, IfOk};
 ghost use Rattle.std.specs.Borrow.{sem};
-ghost use Rattle.mem_image.specs.Images.{replaced};
+ghost use Rattle.st_types.specs.Kinds as kinds;
+ghost use Rattle.mem_image.specs.Images.{replaced, value_at};
 ghost use Rattle.mem_image.specs.Lending.{LendsPart};
 
+use crate::words::value;
 use plc_text::NoMemory;
+use st_types::Elem;
 use std::alloc::Global;
 use std::marker::Model;
 
@@ -43,6 +46,14 @@ impl Image {
         ensures { IsTrue result ↔ (self.now ≡ []) }
     {
         self.bytes.is_empty()
+    }
+
+    /// The value of the kind at the offset. Of a BOOL's byte the lowest bit counts.
+    pub fn read(&self, e: Elem, offset: u32) -> i128
+        requires { offset + kinds.bytes e ≤ length self.now }
+        ensures { result ≡ value_at e self.now offset }
+    {
+        value(self.bytes.as_slice(), e, offset as usize)
     }
 
     /// The `len` bytes from the offset on.

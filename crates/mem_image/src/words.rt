@@ -1,6 +1,35 @@
 ghost use Rattle.std.specs.Prelude.{◌≡◌, ◌+◌, ◌^◌, ◌≤◌, pos, length, slice_range};
 ghost use Rattle.std.specs.Int.{int_rem_euclid};
-ghost use Rattle.mem_image.specs.Images.{low_first};
+ghost use Rattle.st_types.specs.Kinds as kinds;
+ghost use Rattle.mem_image.specs.Images.{low_first, value_at};
+
+use st_types::Elem;
+
+/// The value of the kind from the place on.
+pub fn value(bytes: &[u8], e: Elem, at: usize) -> i128
+    requires { at + kinds.bytes e ≤ length bytes.now }
+    ensures { result ≡ value_at e bytes.now at }
+{
+    match e {
+        Elem::Bool => (word_1(bytes, at) % 2) as i128,
+        Elem::Sint => word_1(bytes, at).cast_signed() as i128,
+        Elem::Int => word_2(bytes, at).cast_signed() as i128,
+        Elem::Dint => word_4(bytes, at).cast_signed() as i128,
+        Elem::Lint => word_8(bytes, at).cast_signed() as i128,
+        Elem::Usint | Elem::Byte => word_1(bytes, at) as i128,
+        Elem::Uint | Elem::Word => word_2(bytes, at) as i128,
+        Elem::Udint | Elem::Dword | Elem::Time => word_4(bytes, at) as i128,
+        Elem::Ulint | Elem::Lword => word_8(bytes, at) as i128,
+    }
+}
+
+/// The number in the byte.
+pub fn word_1(bytes: &[u8], at: usize) -> u8
+    requires { at + 1 ≤ length bytes.now }
+    ensures { result ≡ low_first (slice_range bytes.now at (at + 1)) }
+{
+    bytes[at]
+}
 
 /// The number in the two bytes, the low one first.
 pub fn word_2(bytes: &[u8], at: usize) -> u16
