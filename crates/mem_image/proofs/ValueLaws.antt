@@ -1,7 +1,7 @@
 -- Values of the kinds and the numbers that hold them in two's complement.
-use Rattle.std.proofs.Common.{◌≡◌, ℕ, ℤ, pos, negsuc, suc, ◌+◌, ◌-◌, ◌%◌, ◌^◌, ◌<◌, ◌≤◌, false, List, length, inl, inr, refl, sym, ap, ◌∙◌, arith}
+use Rattle.std.proofs.Common.{◌≡◌, ℕ, ℤ, pos, negsuc, suc, ◌+◌, ◌-◌, ◌%◌, ◌^◌, ◌<◌, ◌≤◌, false, List, [], ◌∷◌, inl, inr, refl, sym, ap, ◌∙◌, arith}
 use Rattle.std.specs.Prelude.{slice_range, FitsSigned}
-use Rattle.std.specs.Int.{w8, w16, w32, w64, w128, cast_signed, cast_unsigned}
+use Rattle.std.specs.Int.{w8, w16, w32, w64, w128, cast_signed, cast_unsigned, int_rem_euclid, to_le_bytes}
 use mir.Syntax.{Width}
 use mir.Val.{SFits, hbits, bits as width_bits}
 use Rattle.std.proofs.Math.Facts.{to_z-neg}
@@ -11,7 +11,7 @@ use Rattle.st_types.specs.declared.elem.Elem.{Elem}
 use Rattle.st_types.specs.declared.elem.Elem.TheVariants as kind
 use Rattle.st_types.specs.Kinds.{bits, bytes, is_signed}
 use Rattle.plc_num.specs.Wrapping.{wrapped}
-use Rattle.mem_image.specs.Images.{low_first, value_at}
+use Rattle.mem_image.specs.Images.{low_first, value_at, bytes_of}
 
 -- a number within the kind is its own value, where the kind has no sign
 pub plain : (e : Elem) (n : ℕ) → is_signed e ≡ false → n < 2 ^ bits e → wrapped e (pos n) ≡ pos n
@@ -85,3 +85,20 @@ read_signed_8 xs at n h is = sym (signed_8 n h) ∙ ap (λ m. wrapped kind.Lint 
 -- a signed number cast to a wider one and back
 pub widened : (w : Width) (z : ℤ) → SFits w z → SFits w128 z → cast_signed w128 (cast_unsigned w128 (cast_signed w (cast_unsigned w z))) ≡ z
 widened w z f g = ap (λ x. cast_signed w128 (cast_unsigned w128 x)) (to_z-of_z w z f) ∙ to_z-of_z w128 z g
+
+-- what a write puts there, where n is the rest of the value
+pub write_1 : (e : Elem) (v : ℤ) (n : ℕ) → bytes e ≡ 1 → n < 2 ^ 8 → pos n ≡ int_rem_euclid v (pos (2 ^ 8)) → n ∷ [] ≡ bytes_of e v
+unfolding bytes_of
+write_1 e v n size h is = rw (size, ← is) (ap (λ b. b ∷ []) (let e : n ≡ n % 256 = omega arith in e))
+
+pub write_2 : (e : Elem) (v : ℤ) (n : ℕ) → bytes e ≡ 2 → pos n ≡ int_rem_euclid v (pos (2 ^ 16)) → to_le_bytes w16 n ≡ bytes_of e v
+unfolding bytes_of
+write_2 e v n size is = rw (size, ← is) refl
+
+pub write_4 : (e : Elem) (v : ℤ) (n : ℕ) → bytes e ≡ 4 → pos n ≡ int_rem_euclid v (pos (2 ^ 32)) → to_le_bytes w32 n ≡ bytes_of e v
+unfolding bytes_of
+write_4 e v n size is = rw (size, ← is) refl
+
+pub write_8 : (e : Elem) (v : ℤ) (n : ℕ) → bytes e ≡ 8 → pos n ≡ int_rem_euclid v (pos (2 ^ 64)) → to_le_bytes w64 n ≡ bytes_of e v
+unfolding bytes_of
+write_8 e v n size is = rw (size, ← is) refl

@@ -1,10 +1,11 @@
 ghost use Rattle.std.specs.Prelude.{◌≡◌, ◌+◌, ◌≤◌, ◌↔◌, [], length, replicate, slice_range, IsTrue, IfOk};
 ghost use Rattle.std.specs.Borrow.{sem};
 ghost use Rattle.st_types.specs.Kinds as kinds;
-ghost use Rattle.mem_image.specs.Images.{replaced, value_at};
+ghost use Rattle.st_types.specs.Ranges.{Fits};
+ghost use Rattle.mem_image.specs.Images.{replaced, value_at, written};
 ghost use Rattle.mem_image.specs.Lending.{LendsPart};
 
-use crate::words::value;
+use crate::words::{low_1, low_2, low_4, low_8, value};
 use plc_text::NoMemory;
 use st_types::Elem;
 use std::alloc::Global;
@@ -49,6 +50,7 @@ impl Image {
     }
 
     /// The value of the kind at the offset. Of a BOOL's byte the lowest bit counts.
+    #[inline]
     pub fn read(&self, e: Elem, offset: u32) -> i128
         requires { offset + kinds.bytes e ≤ length self.now }
         ensures { result ≡ value_at e self.now offset }
@@ -56,7 +58,31 @@ impl Image {
         value(self.bytes.as_slice(), e, offset as usize)
     }
 
+    /// Writes the value of the kind at the offset.
+    #[inline]
+    pub fn write(&mut self, e: Elem, offset: u32, v: i128)
+        requires fits { Fits e v }
+        requires within { offset + kinds.bytes e ≤ length self.old }
+        ensures { self.new ≡ written e self.old offset v }
+    {
+        match e {
+            Elem::Bool | Elem::Sint | Elem::Usint | Elem::Byte => {
+                self.fill_from(offset, &[low_1(v)])
+            }
+            Elem::Int | Elem::Uint | Elem::Word => {
+                self.fill_from(offset, &low_2(v).to_le_bytes())
+            }
+            Elem::Dint | Elem::Udint | Elem::Dword | Elem::Time => {
+                self.fill_from(offset, &low_4(v).to_le_bytes())
+            }
+            Elem::Lint | Elem::Ulint | Elem::Lword => {
+                self.fill_from(offset, &low_8(v).to_le_bytes())
+            }
+        }
+    }
+
     /// The `len` bytes from the offset on.
+    #[inline]
     pub fn part(&self, offset: u32, len: u32) -> &[u8]
         requires { offset + len ≤ length self.now }
         ensures { result.now ≡ slice_range self.now offset (offset + len) }
@@ -66,6 +92,7 @@ impl Image {
     }
 
     /// The `len` bytes from the offset on, to be written.
+    #[inline]
     pub fn part_mut(&mut self, offset: u32, len: u32) -> &mut [u8]
         requires { offset + len ≤ length self.old }
         ensures* writes_back { sem 𝓛 (LendsPart self.entry offset result) }
@@ -77,6 +104,7 @@ impl Image {
     }
 
     /// Writes the bytes over those from `to` on.
+    #[inline]
     pub fn fill_from(&mut self, to: u32, bytes: &[u8])
         requires { to + length bytes.now ≤ length self.old }
         ensures { self.new ≡ replaced self.old to bytes.now }

@@ -6,6 +6,7 @@ ghost use Rattle.mem_image.specs.Images.{low_first, value_at};
 use st_types::Elem;
 
 /// The value of the kind from the place on.
+#[inline]
 pub fn value(bytes: &[u8], e: Elem, at: usize) -> i128
     requires { at + kinds.bytes e ≤ length bytes.now }
     ensures { result ≡ value_at e bytes.now at }
@@ -24,6 +25,7 @@ pub fn value(bytes: &[u8], e: Elem, at: usize) -> i128
 }
 
 /// The number in the byte.
+#[inline]
 pub fn word_1(bytes: &[u8], at: usize) -> u8
     requires { at + 1 ≤ length bytes.now }
     ensures { result ≡ low_first (slice_range bytes.now at (at + 1)) }
@@ -32,6 +34,7 @@ pub fn word_1(bytes: &[u8], at: usize) -> u8
 }
 
 /// The number in the two bytes, the low one first.
+#[inline]
 pub fn word_2(bytes: &[u8], at: usize) -> u16
     requires { at + 2 ≤ length bytes.now }
     ensures { result ≡ low_first (slice_range bytes.now at (at + 2)) }
@@ -40,6 +43,7 @@ pub fn word_2(bytes: &[u8], at: usize) -> u16
 }
 
 /// The number in the four bytes, the low one first.
+#[inline]
 pub fn word_4(bytes: &[u8], at: usize) -> u32
     requires { at + 4 ≤ length bytes.now }
     ensures { result ≡ low_first (slice_range bytes.now at (at + 4)) }
@@ -48,6 +52,7 @@ pub fn word_4(bytes: &[u8], at: usize) -> u32
 }
 
 /// The number in the eight bytes, the low one first.
+#[inline]
 pub fn word_8(bytes: &[u8], at: usize) -> u64
     requires { at + 8 ≤ length bytes.now }
     ensures { result ≡ low_first (slice_range bytes.now at (at + 8)) }
@@ -64,9 +69,34 @@ pub fn word_8(bytes: &[u8], at: usize) -> u64
     ])
 }
 
-/// The low 32 bits in two's complement.
+/// The lowest 8 bits in two's complement.
+#[inline]
+pub fn low_1(v: i128) -> u8
+    ensures { pos result ≡ int_rem_euclid v (pos (2 ^ 8)) }
+{
+    (v.cast_unsigned() % 0x100) as u8
+}
+
+/// The lowest 16 bits in two's complement.
+#[inline]
+pub fn low_2(v: i128) -> u16
+    ensures { pos result ≡ int_rem_euclid v (pos (2 ^ 16)) }
+{
+    (v.cast_unsigned() % 0x1_0000) as u16
+}
+
+/// The lowest 32 bits in two's complement.
+#[inline]
 pub fn low_4(v: i128) -> u32
     ensures { pos result ≡ int_rem_euclid v (pos (2 ^ 32)) }
 {
     (v.cast_unsigned() % 0x1_0000_0000) as u32
+}
+
+/// The lowest 64 bits in two's complement.
+#[inline]
+pub fn low_8(v: i128) -> u64
+    ensures { pos result ≡ int_rem_euclid v (pos (2 ^ 64)) }
+{
+    (v.cast_unsigned() % 0x1_0000_0000_0000_0000) as u64
 }
