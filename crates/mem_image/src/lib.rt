@@ -4,7 +4,9 @@
 
 mod at;
 mod image;
+mod regions;
 mod words;
 
 pub use at::At;
 pub use image::Image;
+pub use regions::Regions;
