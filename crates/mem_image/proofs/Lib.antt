@@ -1,2 +1,3 @@
-pub mod ImageLaws
+pub mod NumberLaws
+pub mod PartLaws
 pub mod ValueLaws

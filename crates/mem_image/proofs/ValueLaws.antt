@@ -1,104 +1,159 @@
--- Values of the kinds and the numbers that hold them in two's complement.
-use Rattle.std.proofs.Common.{◌≡◌, ℕ, ℤ, pos, negsuc, suc, ◌+◌, ◌-◌, ◌%◌, ◌^◌, ◌<◌, ◌≤◌, false, List, [], ◌∷◌, inl, inr, refl, sym, ap, ◌∙◌, arith}
-use Rattle.std.specs.Prelude.{slice_range, FitsSigned}
-use Rattle.std.specs.Int.{w8, w16, w32, w64, w128, cast_signed, cast_unsigned, int_rem_euclid, to_le_bytes}
-use mir.Syntax.{Width}
-use mir.Val.{SFits, hbits, bits as width_bits}
-use Rattle.std.proofs.Math.Facts.{to_z-neg}
-use Rattle.std.proofs.lemmas.Bool.{cases_lt}
-use Rattle.std.proofs.lemmas.Int.{ints, to_z_pos, to_z-of_z}
+-- What reads give after writes and copies.
+use Rattle.std.proofs.Common.{◌≡◌, ℕ, zero, suc, ℤ, pos, negsuc, ◌+◌, ◌-◌, ◌*◌, ◌/◌, ◌%◌, ◌^◌, ◌<◌, ◌≤◌, List, [], ◌∷◌, length, replicate, inl, inr, refl, sym, ap, subst, ◌∙◌, arith}
+use Rattle.std.specs.Prelude.{slice_range, unsigned_abs}
+use Rattle.std.specs.Int.{byte_at, bytes_low_first, int_rem_euclid}
+use Rattle.std.proofs.lemmas.Int.{ints}
+use Rattle.std.proofs.Math.Nat.{mod-lt}
 use Rattle.st_types.specs.declared.elem.Elem.{Elem}
 use Rattle.st_types.specs.declared.elem.Elem.TheVariants as kind
-use Rattle.st_types.specs.Kinds.{bits, bytes, is_signed}
+use Rattle.st_types.specs.Kinds.{bytes}
+use Rattle.st_types.specs.Ranges.{Fits}
 use Rattle.plc_num.specs.Wrapping.{wrapped}
-use Rattle.mem_image.specs.Images.{low_first, value_at, bytes_of}
+use Rattle.mem_image.specs.Images.{low_first, value_at, replaced, bytes_of, written}
+use Rattle.mem_image.specs.Laws.{AreApart}
+use Rattle.mem_image.proofs.PartLaws.{holds, leaves, inside, length-range, range_of_range, range_of_zeros}
 
--- a number within the kind is its own value, where the kind has no sign
-pub plain : (e : Elem) (n : ℕ) → is_signed e ≡ false → n < 2 ^ bits e → wrapped e (pos n) ≡ pos n
-unfolding wrapped
-plain kind.Bool n u h = omega (arith, ints)
-plain kind.Usint n u h = omega (arith, ints)
-plain kind.Uint n u h = omega (arith, ints)
-plain kind.Udint n u h = omega (arith, ints)
-plain kind.Ulint n u h = omega (arith, ints)
-plain kind.Byte n u h = omega (arith, ints)
-plain kind.Word n u h = omega (arith, ints)
-plain kind.Dword n u h = omega (arith, ints)
-plain kind.Lword n u h = omega (arith, ints)
-plain kind.Time n u h = omega (arith, ints)
-plain _ n u h = absurd cc
+-- a kind has 1, 2, 4 or 8 bytes
+by_size : (P : ℕ → Type 0) → P 1 → P 2 → P 4 → P 8 → (e : Elem) → P (bytes e)
+by_size P one two four eight kind.Bool = one
+by_size P one two four eight kind.Sint = one
+by_size P one two four eight kind.Int = two
+by_size P one two four eight kind.Dint = four
+by_size P one two four eight kind.Lint = eight
+by_size P one two four eight kind.Usint = one
+by_size P one two four eight kind.Uint = two
+by_size P one two four eight kind.Udint = four
+by_size P one two four eight kind.Ulint = eight
+by_size P one two four eight kind.Byte = one
+by_size P one two four eight kind.Word = two
+by_size P one two four eight kind.Dword = four
+by_size P one two four eight kind.Lword = eight
+by_size P one two four eight kind.Time = four
 
--- of any number a BOOL takes the lowest bit
-pub lowest_bit : (n : ℕ) → wrapped kind.Bool (pos n) ≡ pos (n % 2)
-unfolding wrapped
-lowest_bit n = omega (arith, ints)
+length-bytes_low_first : (i k n : ℕ) → length (bytes_low_first i k n) ≡ k
+length-bytes_low_first i zero n = refl
+length-bytes_low_first i (suc k) n = let more = length-bytes_low_first (suc i) k n in omega (arith, more)
 
--- a number in the upper half stands for one below zero
-above : (w : Width) (n : ℕ) → 2 ^ width_bits w ≡ 2 ^ hbits w + 2 ^ hbits w → 2 ^ hbits w ≤ n → n < 2 ^ width_bits w → cast_signed w n ≡ negsuc (2 ^ width_bits w - suc n)
-above w n whole low high =
-    let k = 2 ^ width_bits w - suc n in
-    let back : n ≡ 2 ^ width_bits w - suc k = omega arith in
-    ap (cast_signed w) back ∙ to_z-neg w k (omega arith)
-
--- a signed kind takes the upper half of the numbers for those below zero
-pub signed_1 : (n : ℕ) → n < 2 ^ 8 → wrapped kind.Sint (pos n) ≡ cast_signed w8 n
-unfolding wrapped
-signed_1 n h = elim (cases_lt n (2 ^ 7)) [ inl low ↦ omega (arith, ints) | inr high ↦ omega (arith, ints, above w8 n refl high h) ]
-
-pub signed_2 : (n : ℕ) → n < 2 ^ 16 → wrapped kind.Int (pos n) ≡ cast_signed w16 n
-unfolding wrapped
-signed_2 n h = elim (cases_lt n (2 ^ 15)) [ inl low ↦ omega (arith, ints) | inr high ↦ omega (arith, ints, above w16 n refl high h) ]
-
-pub signed_4 : (n : ℕ) → n < 2 ^ 32 → wrapped kind.Dint (pos n) ≡ cast_signed w32 n
-unfolding wrapped
-signed_4 n h = elim (cases_lt n (2 ^ 31)) [ inl low ↦ omega (arith, ints) | inr high ↦ omega (arith, ints, above w32 n refl high h) ]
-
-pub signed_8 : (n : ℕ) → n < 2 ^ 64 → wrapped kind.Lint (pos n) ≡ cast_signed w64 n
-unfolding wrapped
-signed_8 n h = elim (cases_lt n (2 ^ 63)) [ inl low ↦ omega (arith, ints) | inr high ↦ omega (arith, ints, above w64 n refl high h) ]
-
--- what a read answers, where n is the number of the bytes
-pub read_plain : (e : Elem) (xs : List ℕ) (at k n : ℕ) → is_signed e ≡ false → k ≡ bytes e → n < 2 ^ bits e → n ≡ low_first (slice_range xs at (at + k)) → pos n ≡ value_at e xs at
-unfolding value_at
-read_plain e xs at k n u size h is = sym (plain e n u h) ∙ ap (λ m. wrapped e (pos m)) is ∙ ap (λ j. wrapped e (pos (low_first (slice_range xs at (at + j))))) size
-
-pub read_bit : (xs : List ℕ) (at n : ℕ) → n ≡ low_first (slice_range xs at (at + 1)) → pos (n % 2) ≡ value_at kind.Bool xs at
-unfolding value_at
-read_bit xs at n is = sym (lowest_bit n) ∙ ap (λ m. wrapped kind.Bool (pos m)) is
-
-pub read_signed_1 : (xs : List ℕ) (at n : ℕ) → n < 2 ^ 8 → n ≡ low_first (slice_range xs at (at + 1)) → cast_signed w8 n ≡ value_at kind.Sint xs at
-unfolding value_at
-read_signed_1 xs at n h is = sym (signed_1 n h) ∙ ap (λ m. wrapped kind.Sint (pos m)) is
-
-pub read_signed_2 : (xs : List ℕ) (at n : ℕ) → n < 2 ^ 16 → n ≡ low_first (slice_range xs at (at + 2)) → cast_signed w16 n ≡ value_at kind.Int xs at
-unfolding value_at
-read_signed_2 xs at n h is = sym (signed_2 n h) ∙ ap (λ m. wrapped kind.Int (pos m)) is
-
-pub read_signed_4 : (xs : List ℕ) (at n : ℕ) → n < 2 ^ 32 → n ≡ low_first (slice_range xs at (at + 4)) → cast_signed w32 n ≡ value_at kind.Dint xs at
-unfolding value_at
-read_signed_4 xs at n h is = sym (signed_4 n h) ∙ ap (λ m. wrapped kind.Dint (pos m)) is
-
-pub read_signed_8 : (xs : List ℕ) (at n : ℕ) → n < 2 ^ 64 → n ≡ low_first (slice_range xs at (at + 8)) → cast_signed w64 n ≡ value_at kind.Lint xs at
-unfolding value_at
-read_signed_8 xs at n h is = sym (signed_8 n h) ∙ ap (λ m. wrapped kind.Lint (pos m)) is
-
--- a signed number cast to a wider one and back
-pub widened : (w : Width) (z : ℤ) → SFits w z → SFits w128 z → cast_signed w128 (cast_unsigned w128 (cast_signed w (cast_unsigned w z))) ≡ z
-widened w z f g = ap (λ x. cast_signed w128 (cast_unsigned w128 x)) (to_z-of_z w z f) ∙ to_z-of_z w128 z g
-
--- what a write puts there, where n is the rest of the value
-pub write_1 : (e : Elem) (v : ℤ) (n : ℕ) → bytes e ≡ 1 → n < 2 ^ 8 → pos n ≡ int_rem_euclid v (pos (2 ^ 8)) → n ∷ [] ≡ bytes_of e v
+length-bytes_of : (e : Elem) (v : ℤ) → length (bytes_of e v) ≡ bytes e
 unfolding bytes_of
-write_1 e v n size h is = rw (size, ← is) (ap (λ b. b ∷ []) (let e : n ≡ n % 256 = omega arith in e))
+length-bytes_of e v = length-bytes_low_first 0 (bytes e) _
 
-pub write_2 : (e : Elem) (v : ℤ) (n : ℕ) → bytes e ≡ 2 → pos n ≡ int_rem_euclid v (pos (2 ^ 16)) → to_le_bytes w16 n ≡ bytes_of e v
-unfolding bytes_of
-write_2 e v n size is = rw (size, ← is) refl
+-- what a division leaves of a number
+rest_below : (v : ℤ) (m : ℕ) → 0 < m → unsigned_abs (int_rem_euclid v (pos m)) < m
+rest_below (pos a) m h = mod-lt a h
+rest_below (negsuc a) m h = omega (arith, mod-lt a h)
 
-pub write_4 : (e : Elem) (v : ℤ) (n : ℕ) → bytes e ≡ 4 → pos n ≡ int_rem_euclid v (pos (2 ^ 32)) → to_le_bytes w32 n ≡ bytes_of e v
-unfolding bytes_of
-write_4 e v n size is = rw (size, ← is) refl
+-- the bytes of a number give it back
+back_1 : (n : ℕ) → n < 256 ^ 1 → low_first (bytes_low_first 0 1 n) ≡ n
+back_1 n h = omega arith
 
-pub write_8 : (e : Elem) (v : ℤ) (n : ℕ) → bytes e ≡ 8 → pos n ≡ int_rem_euclid v (pos (2 ^ 64)) → to_le_bytes w64 n ≡ bytes_of e v
+back_2 : (n : ℕ) → n < 256 ^ 2 → low_first (bytes_low_first 0 2 n) ≡ n
+back_2 n h = omega arith
+
+back_4 : (n : ℕ) → n < 256 ^ 4 → low_first (bytes_low_first 0 4 n) ≡ n
+back_4 n h = omega arith
+
+back_8 : (n : ℕ) → n < 256 ^ 8 → low_first (bytes_low_first 0 8 n) ≡ n
+back_8 n h = omega arith
+
+number_of : (e : Elem) (v : ℤ) → low_first (bytes_of e v) ≡ unsigned_abs (int_rem_euclid v (pos (256 ^ bytes e)))
 unfolding bytes_of
-write_8 e v n size is = rw (size, ← is) refl
+number_of e v =
+    by_size (λ k. low_first (bytes_low_first 0 k (unsigned_abs (int_rem_euclid v (pos (256 ^ k))))) ≡ unsigned_abs (int_rem_euclid v (pos (256 ^ k))))
+    (back_1 _ (rest_below v (256 ^ 1) (omega arith)))
+    (back_2 _ (rest_below v (256 ^ 2) (omega arith)))
+    (back_4 _ (rest_below v (256 ^ 4) (omega arith)))
+    (back_8 _ (rest_below v (256 ^ 8) (omega arith)))
+    e
+
+-- the number of a value's bytes wraps back to the value
+wrapped-rest : (e : Elem) (v : ℤ) → Fits e v → wrapped e (pos (unsigned_abs (int_rem_euclid v (pos (256 ^ bytes e))))) ≡ v
+unfolding wrapped
+wrapped-rest kind.Bool (pos n) h = omega (arith, ints, h.1)
+wrapped-rest kind.Sint (pos n) h = omega (arith, ints, h.1)
+wrapped-rest kind.Sint (negsuc n) h = omega (arith, ints, h.0)
+wrapped-rest kind.Int (pos n) h = omega (arith, ints, h.1)
+wrapped-rest kind.Int (negsuc n) h = omega (arith, ints, h.0)
+wrapped-rest kind.Dint (pos n) h = omega (arith, ints, h.1)
+wrapped-rest kind.Dint (negsuc n) h = omega (arith, ints, h.0)
+wrapped-rest kind.Lint (pos n) h = omega (arith, ints, h.1)
+wrapped-rest kind.Lint (negsuc n) h = omega (arith, ints, h.0)
+wrapped-rest kind.Usint (pos n) h = omega (arith, ints, h.1)
+wrapped-rest kind.Uint (pos n) h = omega (arith, ints, h.1)
+wrapped-rest kind.Udint (pos n) h = omega (arith, ints, h.1)
+wrapped-rest kind.Ulint (pos n) h = omega (arith, ints, h.1)
+wrapped-rest kind.Byte (pos n) h = omega (arith, ints, h.1)
+wrapped-rest kind.Word (pos n) h = omega (arith, ints, h.1)
+wrapped-rest kind.Dword (pos n) h = omega (arith, ints, h.1)
+wrapped-rest kind.Lword (pos n) h = omega (arith, ints, h.1)
+wrapped-rest kind.Time (pos n) h = omega (arith, ints, h.1)
+wrapped-rest _ (negsuc n) h = absurd (omega (arith, ints, h.0))
+
+pub reads_back : (e : Elem) (xs : List ℕ) (at : ℕ) (v : ℤ) → Fits e v → at + bytes e ≤ length xs → value_at e (written e xs at v) at ≡ v
+unfolding value_at
+reads_back e xs at v fits h =
+    let size = length-bytes_of e v in
+    let part : slice_range (replaced xs at (bytes_of e v)) at (at + bytes e) ≡ bytes_of e v =
+    ap (λ n. slice_range (replaced xs at (bytes_of e v)) at (at + n)) (sym size) ∙ holds xs (bytes_of e v) at (omega (arith, size)) in
+    ap (λ bs. wrapped e (pos (low_first bs))) part ∙ ap (λ n. wrapped e (pos n)) (number_of e v) ∙ wrapped-rest e v fits
+
+pub leaves_values : (a b : Elem) (xs : List ℕ) (i j : ℕ) (v : ℤ) → i + bytes a ≤ length xs → AreApart i (bytes a) j (bytes b) → value_at b (written a xs i v) j ≡ value_at b xs j
+unfolding value_at
+leaves_values a b xs i j v h apart =
+    let size = length-bytes_of a v in
+    ap (λ bs. wrapped b (pos (low_first bs))) (leaves xs (bytes_of a v) i j (bytes b) (omega (arith, size)) (subst (λ n. AreApart i n j (bytes b)) (sym size) apart))
+
+fits_wrapped : (e : Elem) (n : ℕ) → Fits e (wrapped e (pos n))
+unfolding wrapped
+fits_wrapped kind.Bool n = (omega (arith, ints), omega (arith, ints))
+fits_wrapped kind.Sint n = (omega (arith, ints), omega (arith, ints))
+fits_wrapped kind.Int n = (omega (arith, ints), omega (arith, ints))
+fits_wrapped kind.Dint n = (omega (arith, ints), omega (arith, ints))
+fits_wrapped kind.Lint n = (omega (arith, ints), omega (arith, ints))
+fits_wrapped kind.Usint n = (omega (arith, ints), omega (arith, ints))
+fits_wrapped kind.Uint n = (omega (arith, ints), omega (arith, ints))
+fits_wrapped kind.Udint n = (omega (arith, ints), omega (arith, ints))
+fits_wrapped kind.Ulint n = (omega (arith, ints), omega (arith, ints))
+fits_wrapped kind.Byte n = (omega (arith, ints), omega (arith, ints))
+fits_wrapped kind.Word n = (omega (arith, ints), omega (arith, ints))
+fits_wrapped kind.Dword n = (omega (arith, ints), omega (arith, ints))
+fits_wrapped kind.Lword n = (omega (arith, ints), omega (arith, ints))
+fits_wrapped kind.Time n = (omega (arith, ints), omega (arith, ints))
+
+pub reads_within : (e : Elem) (xs : List ℕ) (at : ℕ) → Fits e (value_at e xs at)
+unfolding value_at
+reads_within e xs at = fits_wrapped e _
+
+low_first-zeros : (k : ℕ) → low_first (replicate k 0) ≡ 0
+low_first-zeros zero = refl
+low_first-zeros (suc k) = let more = low_first-zeros k in omega (arith, more)
+
+wrapped-zero : (e : Elem) → wrapped e (pos 0) ≡ pos 0
+unfolding wrapped
+wrapped-zero kind.Bool = refl
+wrapped-zero kind.Sint = refl
+wrapped-zero kind.Int = refl
+wrapped-zero kind.Dint = refl
+wrapped-zero kind.Lint = refl
+wrapped-zero kind.Usint = refl
+wrapped-zero kind.Uint = refl
+wrapped-zero kind.Udint = refl
+wrapped-zero kind.Ulint = refl
+wrapped-zero kind.Byte = refl
+wrapped-zero kind.Word = refl
+wrapped-zero kind.Dword = refl
+wrapped-zero kind.Lword = refl
+wrapped-zero kind.Time = refl
+
+pub reads_zero : (e : Elem) (n i : ℕ) → i + bytes e ≤ n → value_at e (replicate n 0) i ≡ pos 0
+unfolding value_at
+reads_zero e n i h =
+    ap (λ bs. wrapped e (pos (low_first bs))) (range_of_zeros n i (bytes e) h) ∙ ap (λ m. wrapped e (pos m)) (low_first-zeros (bytes e)) ∙ wrapped-zero e
+
+pub copies_values : (e : Elem) (xs source : List ℕ) (i from n k : ℕ) → i + n ≤ length xs → from + n ≤ length source → k + bytes e ≤ n
+    → value_at e (replaced xs i (slice_range source from (from + n))) (i + k) ≡ value_at e source (from + k)
+unfolding value_at
+copies_values e xs source i from n k target within inner =
+    let size = length-range source from n within in
+    ap (λ bs. wrapped e (pos (low_first bs)))
+    (inside xs (slice_range source from (from + n)) i k (bytes e) (omega (arith, size)) (omega (arith, size)) ∙ range_of_range source from n k (bytes e) inner)

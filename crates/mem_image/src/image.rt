@@ -1,4 +1,4 @@
-ghost use Rattle.std.specs.Prelude.{◌≡◌, ◌+◌, ◌≤◌, ◌↔◌, [], length, replicate, slice_range, IsTrue, IfOk};
+ghost use Rattle.std.specs.Prelude.{◌≡◌, ◌+◌, ◌<◌, ◌≤◌, ◌↔◌, [], length, replicate, slice_range, All, IsTrue, IfOk};
 ghost use Rattle.std.specs.Borrow.{sem};
 ghost use Rattle.st_types.specs.Kinds as kinds;
 ghost use Rattle.st_types.specs.Ranges.{Fits};
@@ -38,9 +38,11 @@ impl Image {
 
     /// How many bytes there are.
     pub fn len(&self) -> u32
-        ensures { result ≡ length self.now }
+        ensures len { result ≡ length self.now }
+        ensures bytes { All (λ byte. byte < 256) self.now }
     {
-        self.bytes.len() as u32
+        let bytes = self.bytes.as_slice();
+        bytes.len() as u32
     }
 
     pub fn is_empty(&self) -> bool
@@ -122,7 +124,8 @@ impl Image {
         ensures { self.new ≡ replaced self.old to (slice_range self.old from (from + len)) }
     {
         let start = from as usize;
-        self.bytes.copy_within(start..start + len as usize, to as usize);
+        self.bytes
+            .copy_within(start..start + len as usize, to as usize);
     }
 
     /// Writes the `len` bytes of the other image from `from` on over those from `to` on.

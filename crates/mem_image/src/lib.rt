@@ -4,9 +4,11 @@
 
 mod at;
 mod image;
+mod laws;
 mod regions;
 mod words;
 
 pub use at::At;
 pub use image::Image;
+pub use laws::{part_laws, value_laws};
 pub use regions::Regions;

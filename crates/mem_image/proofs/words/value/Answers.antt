@@ -3,7 +3,7 @@ use Rattle.std.specs.Prelude.{FitsSigned}
 use Rattle.std.specs.Int.{w8, w16, w32, w64, w128}
 use Rattle.std.proofs.lemmas.Int.{to_z_pos}
 use Rattle.st_types.specs.declared.elem.Elem.TheVariants as kind
-use Rattle.mem_image.proofs.ValueLaws.{read_plain, read_bit, read_signed_1, read_signed_2, read_signed_4, read_signed_8, widened}
+use Rattle.mem_image.proofs.NumberLaws.{read_plain, read_bit, read_signed_1, read_signed_2, read_signed_4, read_signed_8, widened}
 use Rattle.mem_image.proofs.words.value.Goals as goal
 
 pub returns-in-Bool : goal.returns-in-Bool
@@ -59,9 +59,9 @@ returns-in-Udint c =
     to_z_pos w128 n (omega arith) ∙ elim c.in-Udint.is [
       | inl is ↦ rw is (read_plain kind.Udint _ _ 4 n refl refl (omega arith) c.word_4-in-Udint.ensures)
       | inr rest ↦ elim rest [
-          | inl is ↦ rw is (read_plain kind.Dword _ _ 4 n refl refl (omega arith) c.word_4-in-Udint.ensures)
-          | inr is ↦ rw is (read_plain kind.Time _ _ 4 n refl refl (omega arith) c.word_4-in-Udint.ensures)
-        ]
+        | inl is ↦ rw is (read_plain kind.Dword _ _ 4 n refl refl (omega arith) c.word_4-in-Udint.ensures)
+        | inr is ↦ rw is (read_plain kind.Time _ _ 4 n refl refl (omega arith) c.word_4-in-Udint.ensures)
+      ]
     ]
 
 pub returns-in-Ulint : goal.returns-in-Ulint

@@ -1,4 +1,4 @@
-use Rattle.mem_image.proofs.ImageLaws.{copied}
+use Rattle.mem_image.proofs.PartLaws.{copied}
 use Rattle.mem_image.proofs.image.Image.copy_within_image.Goals as goal
 
 pub returns : goal.returns

@@ -1,4 +1,4 @@
-use Rattle.mem_image.proofs.ImageLaws.{filled}
+use Rattle.mem_image.proofs.PartLaws.{filled}
 use Rattle.mem_image.proofs.image.Image.fill_from.Goals as goal
 
 pub returns : goal.returns

@@ -3,7 +3,7 @@ use Rattle.std.specs.Int.{w128, int_rem_euclid}
 use Rattle.std.proofs.lemmas.Int.{to_z-of_z}
 use Rattle.st_types.specs.Kinds.{bytes}
 use Rattle.mem_image.specs.Images.{replaced}
-use Rattle.mem_image.proofs.ValueLaws.{write_1, write_2, write_4, write_8}
+use Rattle.mem_image.proofs.NumberLaws.{write_1, write_2, write_4, write_8}
 use Rattle.mem_image.proofs.image.Image.write.Goals as goal
 
 pub returns-in-Bool : goal.returns-in-Bool
