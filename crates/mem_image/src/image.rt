@@ -65,7 +65,8 @@ impl Image {
     pub fn write(&mut self, e: Elem, offset: u32, v: i128)
         requires fits { Fits e v }
         requires within { offset + kinds.bytes e ≤ length self.old }
-        ensures { self.new ≡ written e self.old offset v }
+        ensures after { self.new ≡ written e self.old offset v }
+        ensures len { length self.new ≡ length self.old }
     {
         match e {
             Elem::Bool | Elem::Sint | Elem::Usint | Elem::Byte => {
@@ -109,7 +110,8 @@ impl Image {
     #[inline]
     pub fn fill_from(&mut self, to: u32, bytes: &[u8])
         requires { to + length bytes.now ≤ length self.old }
-        ensures { self.new ≡ replaced self.old to bytes.now }
+        ensures after { self.new ≡ replaced self.old to bytes.now }
+        ensures len { length self.new ≡ length self.old }
     {
         let start = to as usize;
         let end = start + bytes.len();
@@ -121,7 +123,8 @@ impl Image {
     pub fn copy_within_image(&mut self, to: u32, from: u32, len: u32)
         requires target { to + len ≤ length self.old }
         requires source { from + len ≤ length self.old }
-        ensures { self.new ≡ replaced self.old to (slice_range self.old from (from + len)) }
+        ensures after { self.new ≡ replaced self.old to (slice_range self.old from (from + len)) }
+        ensures len { length self.new ≡ length self.old }
     {
         let start = from as usize;
         self.bytes
@@ -132,7 +135,8 @@ impl Image {
     pub fn copy_from(&mut self, to: u32, source: &Image, from: u32, len: u32)
         requires target { to + len ≤ length self.old }
         requires source { from + len ≤ length source.now }
-        ensures { self.new ≡ replaced self.old to (slice_range source.now from (from + len)) }
+        ensures after { self.new ≡ replaced self.old to (slice_range source.now from (from + len)) }
+        ensures len { length self.new ≡ length self.old }
     {
         self.fill_from(to, source.part(from, len));
     }
