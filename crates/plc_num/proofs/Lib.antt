@@ -1,0 +1,2 @@
+pub mod WrappingLaws
+pub mod Machine
