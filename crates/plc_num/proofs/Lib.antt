@@ -1,2 +1,4 @@
-pub mod WrappingLaws
+pub mod BitLaws
 pub mod Machine
+pub mod WrappingLaws
+pub mod OperationLaws

@@ -1,9 +1,10 @@
 -- Wrapping gives one value of the kind, and no other.
-use Rattle.std.proofs.Common.{◌≡◌, ◌⊎◌, ℕ, ℤ, zero, suc, pos, negsuc, ◌+◌, ◌-◌, ◌*◌, ◌/◌, ◌%◌, ◌^◌, ◌<◌, ◌≤◌, Bool, true, false, refl, sym, ap, subst, ◌∙◌, inl, inr, pow_pos, arith}
-use Rattle.std.specs.Prelude.{◌+ℤ◌, ◌-ℤ◌, ◌*ℤ◌, ◌≤ℤ◌, ◌<ℤ◌, neg_ℤ}
+use Rattle.std.proofs.Common.{◌≡◌, ℕ, ℤ, zero, suc, pos, negsuc, ◌+◌, ◌-◌, ◌*◌, ◌/◌, ◌^◌, ◌<◌, ◌≤◌, refl, sym, ap, subst, ◌∙◌, ⊎_elim, pow_pos, mul_assoc, arith}
+use Rattle.std.specs.Prelude.{◌+ℤ◌, ◌-ℤ◌, ◌*ℤ◌, ◌≤ℤ◌, ◌<ℤ◌}
 use Rattle.std.specs.Int.{int_rem_euclid}
 use Rattle.std.proofs.lemmas.Int.{ints, by_lt_z}
 use Rattle.std.proofs.Math.Nat.{mod-lt, div-add-mod', mul-le-mul_right}
+use Rattle.std.proofs.lemmas.Bool.{cases_lt}
 use Rattle.st_types.specs.declared.elem.Elem.{Elem}
 use Rattle.st_types.specs.declared.elem.Elem.TheVariants as kind
 use Rattle.st_types.specs.Kinds.{bits}
@@ -57,8 +58,10 @@ wrapped-wraps e v =
     let n = 2 ^ bits e in
     let turning = rem_turns z n (pow_pos (bits e)) in
     record {
-      fits = (not_below (lowest e) (int_rem_euclid z (pos n)) (rem_low z n (pow_pos (bits e))),
-        subst (λ (high : ℤ). (lowest e +ℤ int_rem_euclid z (pos n)) ≤ℤ high) (sym (span e)) (not_above (lowest e) (int_rem_euclid z (pos n)) (n - 1) (rem_high z n (pow_pos (bits e)))));
+      fits = (
+        not_below (lowest e) (int_rem_euclid z (pos n)) (rem_low z n (pow_pos (bits e))),
+        subst (λ (high : ℤ). (lowest e +ℤ int_rem_euclid z (pos n)) ≤ℤ high) (sym (span e)) (not_above (lowest e) (int_rem_euclid z (pos n)) (n - 1) (rem_high z n (pow_pos (bits e)))),
+      );
       turns = turning.0;
       differ = shifted (lowest e) v (int_rem_euclid z (pos n)) (turning.0 *ℤ pos n) turning.1;
     }
@@ -76,11 +79,11 @@ same_turn p q low r s n e r_low r_high s_low s_high h =
     by_lt_z q p
     (λ less. let more = turn_more p q n less in absurd (omega (arith, ints)))
     (λ le. by_lt_z p q
-        (λ less. let more = turn_more q p n less in absurd (omega (arith, ints)))
-        (λ ge.
-            let both : p ≡ q = omega (arith, ints) in
-            let same = ap (λ (x : ℤ). x *ℤ pos n) both in
-            omega (arith, ints)))
+    (λ less. let more = turn_more q p n less in absurd (omega (arith, ints)))
+    (λ ge.
+    let both : p ≡ q = omega (arith, ints) in
+    let same = ap (λ (x : ℤ). x *ℤ pos n) both in
+    omega (arith, ints)))
 
 -- two values of a kind that differ from one number by turns are the same
 pub Wraps-unique : (e : Elem) (v r s : ℤ) → Wraps e v r → Wraps e v s → r ≡ s
@@ -184,3 +187,67 @@ rest-down-wraps e v h =
       turns = next turning.0;
       differ = down_turn v rest turning.0 n turning.1;
     }
+
+-- ---- whole turns
+-- x and y are whole turns of n apart
+pub record Apart (n : ℕ) (x y : ℤ) : Type 0 where
+  pub ups : ℕ
+  pub downs : ℕ
+  pub same : x +ℤ pos (ups * n) ≡ y +ℤ pos (downs * n)
+
+pub apart_by : (n : ℕ) (x y t : ℤ) → x ≡ y +ℤ t *ℤ pos n → Apart n x y
+apart_by n x y (pos q) e = record { ups = 0; downs = q; same = omega (arith, ints) }
+apart_by n x y (negsuc q) e = record { ups = suc q; downs = 0; same = omega (arith, ints) }
+
+more_turns : (n j k d : ℕ) (x y : ℤ) → k ≡ j + d → x +ℤ pos (j * n) ≡ y +ℤ pos (k * n) → (t : ℤ) × (x ≡ y +ℤ t *ℤ pos n)
+more_turns n j k d x y e h = let more = ap (λ (q : ℕ). q * n) e in (pos d, omega (arith, ints))
+
+fewer_turns : (n j k d : ℕ) (x y : ℤ) → j ≡ k + d → x +ℤ pos (j * n) ≡ y +ℤ pos (k * n) → (t : ℤ) × (x ≡ y +ℤ t *ℤ pos n)
+fewer_turns n j k zero x y e h = let fewer = ap (λ (q : ℕ). q * n) e in (pos 0, omega (arith, ints))
+fewer_turns n j k (suc d) x y e h = let fewer = ap (λ (q : ℕ). q * n) e in (negsuc d, omega (arith, ints))
+
+by_turns : (n : ℕ) (x y : ℤ) → Apart n x y → (t : ℤ) × (x ≡ y +ℤ t *ℤ pos n)
+by_turns n x y a =
+    ⊎_elim
+    (λ less. more_turns n a.ups a.downs (a.downs - a.ups) x y (omega arith) a.same)
+    (λ le. fewer_turns n a.ups a.downs (a.ups - a.downs) x y (omega arith) a.same)
+    (cases_lt a.ups a.downs)
+
+pub apart_through : (n : ℕ) (x y z : ℤ) → Apart n x y → Apart n y z → Apart n x z
+apart_through n x y z a b =
+    let p = a.same in
+    let q = b.same in
+    record { ups = a.ups + b.ups; downs = a.downs + b.downs; same = omega (arith, ints) }
+
+pub apart_coarser : (c n : ℕ) (x y : ℤ) → Apart (c * n) x y → Apart n x y
+apart_coarser c n x y a =
+    record {
+      ups = a.ups * c;
+      downs = a.downs * c;
+      same = subst (λ (m : ℕ). x +ℤ pos m ≡ y +ℤ pos (a.downs * c * n)) (sym (mul_assoc a.ups c n)) (subst (λ (m : ℕ). x +ℤ pos (a.ups * (c * n)) ≡ y +ℤ pos m) (sym (mul_assoc a.downs c n)) a.same);
+    }
+
+-- what is whole turns away wraps alike
+pub wrapped-apart : (e : Elem) (x y : ℤ) → Apart (2 ^ bits e) x y → wrapped e x ≡ wrapped e y
+wrapped-apart e x y a =
+    let n = 2 ^ bits e in
+    let w = wrapped-wraps e y in
+    let t = by_turns n x (wrapped e y) (apart_through n x y (wrapped e y) a (apart_by n y (wrapped e y) w.turns w.differ)) in
+    sym (wrapped-is e x (wrapped e y) (record { fits = w.fits; turns = t.0; differ = t.1 }))
+
+-- two to the width divides two to 128
+pub whole_turns : (e : Elem) → 2 ^ 128 ≡ 2 ^ (128 - bits e) * 2 ^ bits e
+whole_turns kind.Bool = refl
+whole_turns kind.Sint = refl
+whole_turns kind.Int = refl
+whole_turns kind.Dint = refl
+whole_turns kind.Lint = refl
+whole_turns kind.Usint = refl
+whole_turns kind.Uint = refl
+whole_turns kind.Udint = refl
+whole_turns kind.Ulint = refl
+whole_turns kind.Byte = refl
+whole_turns kind.Word = refl
+whole_turns kind.Dword = refl
+whole_turns kind.Lword = refl
+whole_turns kind.Time = refl
