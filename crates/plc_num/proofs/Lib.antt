@@ -1,0 +1,4 @@
+pub mod BitLaws
+pub mod Machine
+pub mod WrappingLaws
+pub mod OperationLaws

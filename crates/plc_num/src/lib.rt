@@ -1,2 +1,17 @@
-//! The arithmetic of the language: on whole numbers, then wrapped to a kind (IEC 61131-3:2013, 6.6.2.5).
+//! The arithmetic of the language: on whole numbers, then wrapped to a kind (IEC 61131-3:2013, 6.6.2.5). No call takes
+//! memory, and each succeeds, but for a divisor of 0.
 #![tactic(auto)]
+
+mod arithmetic;
+mod bits;
+mod conversion;
+mod laws;
+#[cfg(test)]
+mod tests;
+mod wrapping;
+
+pub use arithmetic::{add, div, mul, rem, sub};
+pub use bits::{and, not, or, xor};
+pub use conversion::{compare, convert};
+pub use laws::{bit_laws, division_laws, wrapping_laws};
+pub use wrapping::wrap;
