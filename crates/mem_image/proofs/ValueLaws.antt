@@ -1,16 +1,17 @@
 -- What reads give after writes and copies.
-use Rattle.std.proofs.Common.{◌≡◌, ℕ, zero, suc, ℤ, pos, negsuc, ◌+◌, ◌^◌, ◌<◌, ◌≤◌, List, length, replicate, refl, sym, ap, subst, ◌∙◌, arith}
-use Rattle.std.specs.Prelude.{slice_range, unsigned_abs}
+use Rattle.std.proofs.Common.{◌≡◌, ℕ, zero, suc, ℤ, pos, negsuc, ◌+◌, ◌^◌, ◌<◌, ◌≤◌, List, ◌∷◌, [], length, replicate, refl, sym, ap, subst, ◌∙◌, arith}
+use Rattle.std.specs.Prelude.{◌+ℤ◌, ◌*ℤ◌, ◌↔◌, All, slice_range, unsigned_abs}
 use Rattle.std.specs.Int.{bytes_low_first, int_rem_euclid}
 use Rattle.std.proofs.lemmas.Int.{ints}
-use Rattle.std.proofs.Math.Nat.{mod-lt}
+use Rattle.std.proofs.Math.Nat.{mod-lt, pow-succ', one-le-pow}
 use Rattle.st_types.specs.declared.elem.Elem.{Elem}
 use Rattle.st_types.specs.declared.elem.Elem.TheVariants as kind
 use Rattle.st_types.specs.Kinds.{bytes}
 use Rattle.st_types.specs.Ranges.{Fits}
 use Rattle.plc_num.specs.Wrapping.{wrapped}
 use Rattle.mem_image.specs.Images.{low_first, value_at, replaced, bytes_of, written}
-use Rattle.mem_image.specs.Laws.{AreApart}
+use Rattle.mem_image.specs.Laws.{AreApart, IsSpelling}
+use Rattle.plc_num.proofs.WrappingLaws.{rem_turns, wrapped-wraps, Wraps-unique}
 use Rattle.mem_image.proofs.PartLaws.{holds, leaves, inside, length-range, range_of_range, range_of_zeros}
 
 -- a kind has 1, 2, 4 or 8 bytes
@@ -103,26 +104,9 @@ leaves_values a b xs i j v h apart =
     let size = length-bytes_of a v in
     ap (λ bs. wrapped b (pos (low_first bs))) (leaves xs (bytes_of a v) i j (bytes b) (omega (arith, size)) (subst (λ n. AreApart i n j (bytes b)) (sym size) apart))
 
-fits_wrapped : (e : Elem) (n : ℕ) → Fits e (wrapped e (pos n))
-unfolding wrapped
-fits_wrapped kind.Bool n = (omega (arith, ints), omega (arith, ints))
-fits_wrapped kind.Sint n = (omega (arith, ints), omega (arith, ints))
-fits_wrapped kind.Int n = (omega (arith, ints), omega (arith, ints))
-fits_wrapped kind.Dint n = (omega (arith, ints), omega (arith, ints))
-fits_wrapped kind.Lint n = (omega (arith, ints), omega (arith, ints))
-fits_wrapped kind.Usint n = (omega (arith, ints), omega (arith, ints))
-fits_wrapped kind.Uint n = (omega (arith, ints), omega (arith, ints))
-fits_wrapped kind.Udint n = (omega (arith, ints), omega (arith, ints))
-fits_wrapped kind.Ulint n = (omega (arith, ints), omega (arith, ints))
-fits_wrapped kind.Byte n = (omega (arith, ints), omega (arith, ints))
-fits_wrapped kind.Word n = (omega (arith, ints), omega (arith, ints))
-fits_wrapped kind.Dword n = (omega (arith, ints), omega (arith, ints))
-fits_wrapped kind.Lword n = (omega (arith, ints), omega (arith, ints))
-fits_wrapped kind.Time n = (omega (arith, ints), omega (arith, ints))
-
 pub reads_within : (e : Elem) (xs : List ℕ) (at : ℕ) → Fits e (value_at e xs at)
 unfolding value_at
-reads_within e xs at = fits_wrapped e _
+reads_within e xs at = (wrapped-wraps e _).fits
 
 low_first-zeros : (k : ℕ) → low_first (replicate k 0) ≡ 0
 low_first-zeros zero = refl
@@ -157,3 +141,85 @@ copies_values e xs source i from n k target within inner =
     let size = length-range source from n within in
     ap (λ bs. wrapped e (pos (low_first bs)))
     (inside xs (slice_range source from (from + n)) i k (bytes e) (omega (arith, size)) (omega (arith, size)) ∙ range_of_range source from n k (bytes e) inner)
+
+-- every byte of a number is one
+bytes_below : (i k n : ℕ) → All (λ byte. byte < 256) (bytes_low_first i k n)
+bytes_below i zero n j d h = absurd (omega arith)
+bytes_below zero (suc k) n zero d h = omega arith
+bytes_below (suc i) (suc k) n zero d h = omega arith
+bytes_below i (suc k) n (suc j) d h = bytes_below (suc i) k n j d (omega arith)
+
+bytes_of_below : (e : Elem) (v : ℤ) → All (λ byte. byte < 256) (bytes_of e v)
+unfolding bytes_of
+bytes_of_below e v = bytes_below 0 (bytes e) _
+
+-- what a division leaves is not below zero
+rest_is : (v : ℤ) (m : ℕ) → int_rem_euclid v (pos m) ≡ pos (unsigned_abs (int_rem_euclid v (pos m)))
+rest_is (pos a) m = refl
+rest_is (negsuc a) m = refl
+
+spelled : (e : Elem) (v : ℤ) → IsSpelling e v (bytes_of e v)
+spelled e v =
+    let turning = rem_turns v (256 ^ bytes e) (one-le-pow (bytes e) 256 (omega arith)) in
+    record {
+      count = length-bytes_of e v;
+      are_bytes = bytes_of_below e v;
+      turns = turning.0;
+      differ = turning.1 ∙ ap (λ r. r +ℤ turning.0 *ℤ pos (256 ^ bytes e)) (rest_is v (256 ^ bytes e) ∙ ap pos (sym (number_of e v)));
+    }
+
+-- bytes give their number, and it gives them
+same_bytes : (xs ys : List ℕ) → length xs ≡ length ys → All (λ byte. byte < 256) xs → All (λ byte. byte < 256) ys → low_first xs ≡ low_first ys → xs ≡ ys
+same_bytes [] [] size p q e = refl
+same_bytes [] (y ∷ ys) size p q e = absurd (omega arith)
+same_bytes (x ∷ xs) [] size p q e = absurd (omega arith)
+same_bytes (x ∷ xs) (y ∷ ys) size p q e =
+    let left : x < 256 = p 0 0 (omega arith) in
+    let right : y < 256 = q 0 0 (omega arith) in
+    let low : x ≡ y = omega arith in
+    let high : low_first xs ≡ low_first ys = omega arith in
+    let rest : xs ≡ ys = same_bytes xs ys (omega arith) (λ k d h. p (suc k) d (omega arith)) (λ k d h. q (suc k) d (omega arith)) high in
+    rw (low, rest) refl
+
+number_below : (xs : List ℕ) → All (λ byte. byte < 256) xs → low_first xs < 256 ^ length xs
+number_below [] p = omega arith
+number_below (x ∷ xs) p =
+    let low : x < 256 = p 0 0 (omega arith) in
+    let high = number_below xs (λ k d h. p (suc k) d (omega arith)) in
+    rw (pow-succ' 256 (length xs)) (omega arith)
+
+-- numbers of so many bytes that differ from one number by whole turns are the same
+same_1 : (v : ℤ) (m n : ℕ) (p q : ℤ) → m < 256 ^ 1 → n < 256 ^ 1 → v ≡ pos m +ℤ p *ℤ pos (256 ^ 1) → v ≡ pos n +ℤ q *ℤ pos (256 ^ 1) → m ≡ n
+same_1 v m n p q a b x y =
+    let same = Wraps-unique kind.Usint v (pos m) (pos n) (record { fits = (omega (arith, ints), omega (arith, ints)); turns = p; differ = x }) (record { fits = (omega (arith, ints), omega (arith, ints)); turns = q; differ = y }) in
+    cc
+
+same_2 : (v : ℤ) (m n : ℕ) (p q : ℤ) → m < 256 ^ 2 → n < 256 ^ 2 → v ≡ pos m +ℤ p *ℤ pos (256 ^ 2) → v ≡ pos n +ℤ q *ℤ pos (256 ^ 2) → m ≡ n
+same_2 v m n p q a b x y =
+    let same = Wraps-unique kind.Uint v (pos m) (pos n) (record { fits = (omega (arith, ints), omega (arith, ints)); turns = p; differ = x }) (record { fits = (omega (arith, ints), omega (arith, ints)); turns = q; differ = y }) in
+    cc
+
+same_4 : (v : ℤ) (m n : ℕ) (p q : ℤ) → m < 256 ^ 4 → n < 256 ^ 4 → v ≡ pos m +ℤ p *ℤ pos (256 ^ 4) → v ≡ pos n +ℤ q *ℤ pos (256 ^ 4) → m ≡ n
+same_4 v m n p q a b x y =
+    let same = Wraps-unique kind.Udint v (pos m) (pos n) (record { fits = (omega (arith, ints), omega (arith, ints)); turns = p; differ = x }) (record { fits = (omega (arith, ints), omega (arith, ints)); turns = q; differ = y }) in
+    cc
+
+same_8 : (v : ℤ) (m n : ℕ) (p q : ℤ) → m < 256 ^ 8 → n < 256 ^ 8 → v ≡ pos m +ℤ p *ℤ pos (256 ^ 8) → v ≡ pos n +ℤ q *ℤ pos (256 ^ 8) → m ≡ n
+same_8 v m n p q a b x y =
+    let same = Wraps-unique kind.Ulint v (pos m) (pos n) (record { fits = (omega (arith, ints), omega (arith, ints)); turns = p; differ = x }) (record { fits = (omega (arith, ints), omega (arith, ints)); turns = q; differ = y }) in
+    cc
+
+same_numbers : (e : Elem) (v : ℤ) (m n : ℕ) (p q : ℤ) → m < 256 ^ bytes e → n < 256 ^ bytes e → v ≡ pos m +ℤ p *ℤ pos (256 ^ bytes e) → v ≡ pos n +ℤ q *ℤ pos (256 ^ bytes e) → m ≡ n
+same_numbers e v m n p q =
+    by_size (λ k. m < 256 ^ k → n < 256 ^ k → v ≡ pos m +ℤ p *ℤ pos (256 ^ k) → v ≡ pos n +ℤ q *ℤ pos (256 ^ k) → m ≡ n) (same_1 v m n p q) (same_2 v m n p q) (same_4 v m n p q) (same_8 v m n p q) e
+
+pub spells_once : (e : Elem) (v : ℤ) (part : List ℕ) → IsSpelling e v part ↔ (part ≡ bytes_of e v)
+spells_once e v part = (
+  λ is.
+      let ours = spelled e v in
+      let below = ap (λ n. 256 ^ n) is.count in
+      let same : low_first part ≡ low_first (bytes_of e v) =
+      same_numbers e v (low_first part) (low_first (bytes_of e v)) is.turns ours.turns (subst (λ n. low_first part < 256 ^ n) is.count (number_below part is.are_bytes)) (subst (λ n. low_first (bytes_of e v) < 256 ^ n) ours.count (number_below (bytes_of e v) ours.are_bytes)) is.differ ours.differ in
+      same_bytes part (bytes_of e v) (is.count ∙ sym ours.count) is.are_bytes ours.are_bytes same,
+  λ is. subst (IsSpelling e v) (sym is) (spelled e v),
+)

@@ -1,9 +1,9 @@
 -- The laws of reads, writes and copies.
-use Rattle.std.specs.Prelude.{◌≡◌, ℕ, ◌+◌, ◌≤◌, ℤ, pos, ◌⊎◌, List, length, replicate, slice_range}
+use Rattle.std.specs.Prelude.{◌≡◌, ℕ, ◌+◌, ◌^◌, ◌<◌, ◌≤◌, ℤ, pos, ◌+ℤ◌, ◌*ℤ◌, ◌⊎◌, ◌↔◌, All, List, length, replicate, slice_range}
 use Rattle.st_types.specs.declared.elem.Elem.{Elem}
 use Rattle.st_types.specs.Kinds.{bytes}
 use Rattle.st_types.specs.Ranges.{Fits}
-use Rattle.mem_image.specs.Images.{value_at, replaced, written}
+use Rattle.mem_image.specs.Images.{low_first, value_at, replaced, bytes_of, written}
 
 -- the m bytes from i on and the n bytes from j on share none
 abbrev pub AreApart : ℕ → ℕ → ℕ → ℕ → Type 0
@@ -24,6 +24,17 @@ ReadsWithin = (e : Elem) (image : List ℕ) (i : ℕ) → Fits e (value_at e ima
 -- every value of an image of zeros is 0
 abbrev pub ReadsZero : Type 0
 ReadsZero = (e : Elem) (n i : ℕ) → i + bytes e ≤ n → value_at e (replicate n 0) i ≡ pos 0
+
+-- bytes of a value: as many as its kind has, and their number differs from the value by a multiple of 256 to their count
+pub record IsSpelling (e : Elem) (v : ℤ) (part : List ℕ) : Type 0 where
+  pub count : length part ≡ bytes e
+  pub are_bytes : All (λ byte. byte < 256) part
+  pub turns : ℤ
+  pub differ : v ≡ pos (low_first part) +ℤ turns *ℤ pos (256 ^ bytes e)
+
+-- what a write puts there is that, and nothing else is
+abbrev pub SpellsOnce : Type 0
+SpellsOnce = (e : Elem) (v : ℤ) (part : List ℕ) → IsSpelling e v part ↔ (part ≡ bytes_of e v)
 
 -- what is put over a part leaves the number of bytes
 abbrev pub KeepsLength : Type 0

@@ -1,4 +1,4 @@
-ghost use Rattle.mem_image.specs.Laws.{ReadsBack, LeavesValues, ReadsWithin, ReadsZero, KeepsLength, HoldsPart, LeavesParts, CopiesValues};
+ghost use Rattle.mem_image.specs.Laws.{ReadsBack, LeavesValues, ReadsWithin, ReadsZero, SpellsOnce, KeepsLength, HoldsPart, LeavesParts, CopiesValues};
 
 /// What is written is read back, and no other value changes.
 pub fn value_laws()
@@ -6,6 +6,7 @@ pub fn value_laws()
     ensures leaves { LeavesValues }
     ensures within { ReadsWithin }
     ensures zero { ReadsZero }
+    ensures spells { SpellsOnce }
     ensures copies { CopiesValues }
 {}
 
