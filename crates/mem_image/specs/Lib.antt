@@ -1,4 +1,4 @@
+pub mod ImageLending
 pub mod Images
 pub mod Laws
-pub mod Lending
-pub mod Places
+pub mod PartLending

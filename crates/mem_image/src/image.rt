@@ -3,7 +3,7 @@ ghost use Rattle.std.specs.Borrow.{sem};
 ghost use Rattle.st_types.specs.Kinds as kinds;
 ghost use Rattle.st_types.specs.Ranges.{Fits};
 ghost use Rattle.mem_image.specs.Images.{replaced, value_at, written};
-ghost use Rattle.mem_image.specs.Lending.{LendsPart};
+ghost use Rattle.mem_image.specs.PartLending.{LendsPart};
 
 use crate::words::{low_1, low_2, low_4, low_8, value};
 use plc_text::NoMemory;

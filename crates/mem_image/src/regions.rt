@@ -1,7 +1,7 @@
 ghost use Rattle.std.specs.Prelude.{◌≡◌, ◌<◌, ◌↔◌, [], length, replicate, slice_get, slice_set, Some, None, IsTrue, IfOk};
 ghost use Rattle.std.specs.Option.{option_copied, option_copied_mut};
 ghost use Rattle.std.specs.Borrow.{sem};
-ghost use Rattle.mem_image.specs.Places.{LendsImage};
+ghost use Rattle.mem_image.specs.ImageLending.{LendsImage};
 
 use crate::image::Image;
 use plc_text::NoMemory;
@@ -32,7 +32,7 @@ impl Regions {
     {
         let mut places = Vec::new(alloc);
         places.reserve(regions as usize)?;
-        for _i in 0..regions {
+        for _ in 0..regions {
             places.push(None)?;
         }
         Ok(Regions { places })

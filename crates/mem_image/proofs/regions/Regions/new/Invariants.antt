@@ -1,5 +1,5 @@
 use Rattle.std.proofs.Common.{◌≡◌, replicate, None}
 use Rattle.mem_image.proofs.regions.Regions.new.Given as goal
 
-abbrev pub invariant-loop-i : goal.invariant-loop-i
-invariant-loop-i l = l.places.items ≡ replicate l._i None
+abbrev pub invariant-loop : goal.invariant-loop
+invariant-loop l = l.places.items ≡ replicate l.counter None
