@@ -1,0 +1,4 @@
+pub mod LineLaws
+pub mod WritingLaws
+pub mod WordLaws
+pub mod RefusalLaws

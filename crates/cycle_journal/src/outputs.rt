@@ -1,0 +1,75 @@
+ghost use Rattle.std.specs.Prelude.{◌≡◌, ℕ, ◌≤◌, ◌<◌, [], length};
+ghost use Rattle.cycle_journal.specs.Reading.{hex_in};
+
+use std::marker::Model;
+
+/// How many output bytes there may be.
+const OUTPUT_LIMIT: usize = 256;
+
+/// The output bytes of a cycle, 256 at most. They stand in room of their own, so they take no memory.
+#[derive(Debug, Drop)]
+pub struct Outputs {
+    bytes: [u8; 256],
+    len: u16,
+}
+
+impl Model for Outputs {
+    ghost use Rattle.std.specs.Prelude.{ℕ, List, ◌≤◌, take};
+
+    ghost Value = { List ℕ };
+
+    ghost view = { λ o. take o.len o.bytes };
+
+    ghost invariant = { λ o. o.len ≤ 256 };
+}
+
+impl Outputs {
+    /// No bytes.
+    pub fn new() -> Outputs
+        ensures { result ≡ [] }
+    {
+        Outputs {
+            bytes: [0; OUTPUT_LIMIT],
+            len: 0,
+        }
+    }
+
+    pub fn from_slice(items: &[u8]) -> Outputs
+        requires { length items.now ≤ 256 }
+        ensures { result ≡ items.now }
+    {
+        let mut bytes = [0; OUTPUT_LIMIT];
+        bytes[..items.len()].copy_from_slice(items);
+        Outputs {
+            bytes,
+            len: items.len() as u16,
+        }
+    }
+
+    #[tactic(auto, unfolding(crate::specs::Reading::hex_in))]
+    /// The bytes of pairs of hexadecimal digits in either case, if they are such pairs and not too many.
+    pub fn from_hex(digits: &str) -> Option<Outputs>
+        ensures { result ≡ hex_in digits.now }
+    {
+        let len = digits.len() / 2;
+        if len > OUTPUT_LIMIT {
+            return None;
+        }
+        let mut bytes = [0; OUTPUT_LIMIT];
+        match hex::decode_to_slice(digits.as_bytes(), &mut bytes[..len]) {
+            Ok(()) => Some(Outputs {
+                bytes,
+                len: len as u16,
+            }),
+            Err(_) => None,
+        }
+    }
+
+    /// The bytes, each of which is below 256.
+    pub fn as_slice(&self) -> &[u8]
+        ensures same { result.now ≡ self.now }
+        ensures few { length self.now ≤ 256 }
+    {
+        &self.bytes[..self.len as usize]
+    }
+}
