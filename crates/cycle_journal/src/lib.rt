@@ -3,6 +3,7 @@
 
 mod candidate;
 mod entry;
+mod fits;
 mod line_error;
 mod outputs;
 mod play;

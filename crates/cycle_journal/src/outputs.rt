@@ -1,10 +1,11 @@
-ghost use Rattle.std.specs.Prelude.{◌≡◌, ℕ, ◌≤◌, ◌<◌, [], length};
+ghost use Rattle.std.specs.Prelude.{◌≡◌, ℕ, ◌≤◌, ◌<◌, ◌↔◌, [], length, IsTrue};
+ghost use Rattle.std.specs.List.{AllByRecursion};
 ghost use Rattle.cycle_journal.specs.Reading.{hex_in};
 
 use std::marker::Model;
 
 /// How many output bytes there may be.
-const OUTPUT_LIMIT: usize = 256;
+pub const OUTPUT_LIMIT: usize = 256;
 
 /// The output bytes of a cycle, 256 at most. They stand in room of their own, so they take no memory.
 #[derive(Debug, Drop)]
@@ -71,5 +72,21 @@ impl Outputs {
         ensures few { length self.now ≤ 256 }
     {
         &self.bytes[..self.len as usize]
+    }
+
+    /// How many bytes there are. Each is below 256.
+    pub fn len(&self) -> usize
+        ensures same { result ≡ length self.now }
+        ensures few { length self.now ≤ 256 }
+        ensures bytes { AllByRecursion (λ b. b < 256) self.now }
+    {
+        let bytes = self.as_slice();
+        bytes.len()
+    }
+
+    pub fn is_empty(&self) -> bool
+        ensures { IsTrue result ↔ (self.now ≡ []) }
+    {
+        self.as_slice().is_empty()
     }
 }
