@@ -2,3 +2,5 @@ pub mod LineLaws
 pub mod WritingLaws
 pub mod WordLaws
 pub mod RefusalLaws
+pub mod InkLaws
+pub mod AgainLaws
