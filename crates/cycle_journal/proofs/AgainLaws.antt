@@ -35,7 +35,7 @@ use Rattle.cycle_journal.proofs.InkLaws.{Above, above_no, decimal_above, name_ab
 unspaced : (word : List ℕ) → Above 32 word → HoldsNo 32 word
 unspaced word h = above_no 32 32 (omega arith) word h
 
-first_word : (word rest : List ℕ) → Above 32 word → front_word (word ++ 32 ∷ rest) ≡ word
+pub first_word : (word rest : List ℕ) → Above 32 word → front_word (word ++ 32 ∷ rest) ≡ word
 first_word word rest h = front_word-space word rest (unspaced word h)
 
 after_word : (word rest : List ℕ) → Above 32 word → behind_word (word ++ 32 ∷ rest) ≡ rest
@@ -55,7 +55,7 @@ is_number-from_digits (c ∷ cs) l h = h
 small : (n : ℕ) → n < 2 ^ 32 → nat_lt n (2 ^ 32) ≡ true
 small n h = grind (arith, nat_tests)
 
-number_again : (n : ℕ) → n < 2 ^ 32 → number_in (decimal n) ≡ Some n
+pub number_again : (n : ℕ) → n < 2 ^ 32 → number_in (decimal n) ≡ Some n
 unfolding number_in
 number_again n h =
     let digits = digits_decimal numerals n (omega arith) in
@@ -217,7 +217,7 @@ of_all P [] i x h e = absurd cc
 of_all P (y ∷ ys) zero x h e = let same : y ≡ x = cc in subst P same h.0
 of_all P (y ∷ ys) (suc i) x h e = of_all P ys i x h.1 e
 
-named_play : (plays : List Play) (n : ℕ) (play : Play) → Named plays → play_numbered plays n ≡ Some play → is_name (name_of play) ≡ true
+pub named_play : (plays : List Play) (n : ℕ) (play : Play) → Named plays → play_numbered plays n ≡ Some play → is_name (name_of play) ≡ true
 named_play plays zero play named e = absurd cc
 named_play plays (suc n) play named e = of_all (λ (p : Play). is_name (name_of p) ≡ true) plays n play named e
 

@@ -4,3 +4,5 @@ pub mod WordLaws
 pub mod RefusalLaws
 pub mod InkLaws
 pub mod AgainLaws
+pub mod ReaderLaws
+pub mod JournalLaws

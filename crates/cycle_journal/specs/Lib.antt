@@ -2,3 +2,4 @@ pub mod Lines
 pub mod Names
 pub mod Journal
 pub mod Reading
+pub mod Reader

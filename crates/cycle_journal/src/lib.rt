@@ -4,13 +4,19 @@
 mod candidate;
 mod entry;
 mod fits;
+mod journal_error;
 mod line_error;
+mod lines;
 mod outputs;
 mod play;
+mod reading;
 mod words;
 mod writing;
 
 pub use entry::{Answer, CycleReply, Entry};
+pub use journal_error::JournalError;
+pub use lines::Lines;
 pub use outputs::Outputs;
 pub use play::Play;
+pub use reading::read_journal;
 pub use writing::journal_text;
