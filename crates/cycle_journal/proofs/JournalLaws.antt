@@ -16,11 +16,13 @@ use Rattle.cycle_journal.specs.declared.entry.Answer.TheVariants.{Done, Fault, H
 use Rattle.cycle_journal.specs.Names.{is_name}
 use Rattle.cycle_journal.specs.Lines.{lines_of, begun_with, ended, text_of}
 use Rattle.cycle_journal.specs.Journal.{play_numbered, image, kind_text, answer_text, play_text, entry_text, journal_lines, journal_text, name_of, FitsAnswer, FitsEntry, Fits, Named}
-use Rattle.cycle_journal.specs.Reading.{front_word, number_in}
-use Rattle.cycle_journal.specs.Reader.{CanBegin, FirstBad, NoJournal, IsNoEntry, IsNoLine, Stops, AreEntries, end_line}
+use Rattle.cycle_journal.specs.Reading.{front_word, number_in, entry_in}
+use Rattle.cycle_journal.specs.declared.journal_error.JournalError.{JournalError}
+use Rattle.cycle_journal.specs.declared.journal_error.JournalError.TheVariants.{Bad, NoMemory}
+use Rattle.cycle_journal.specs.Reader.{OnBad, CanBegin, FirstBad, NoJournal, IsNoEntry, IsNoLine, Stops, AreEntries, end_line}
 use Rattle.cycle_journal.proofs.LineLaws.{HoldsNo, lines_of-ended, text_of-last}
 use Rattle.cycle_journal.proofs.InkLaws.{Above, above_append, above_no, above_less, decimal_above, name_above, declaration_above, image_above, code_above, fault_above}
-use Rattle.cycle_journal.proofs.AgainLaws.{entry_fields, first_word, number_again, named_play}
+use Rattle.cycle_journal.proofs.AgainLaws.{entry_again, entry_fields, first_word, number_again, named_play}
 
 -- no LF stands in an entry's line
 
@@ -199,7 +201,7 @@ bad_at : (plays : List Play) (text : List ℕ) (front rest : List (List ℕ)) (l
 bad_at plays text front rest line split number can none whole =
     (none_goes_on plays text front rest split none whole, first_bad plays (lines_of text) front rest line split number can none)
 
-abbrev first_line : List ℕ
+abbrev pub first_line : List ℕ
 first_line = codes "load 1"
 
 -- the first line is none of a journal
@@ -272,7 +274,7 @@ whole_lines plays text middle entries after first are =
     first ∙ ap (λ ls. first_line ∷ ls) (are.split ∙ sym (append_assoc (map (entry_text plays) entries) (end_line (length entries) ∷ []) after))
 
 -- the text ends with its last line, which LF ends
-abbrev IsOver : List ℕ → List (List ℕ) → Type 0
+abbrev pub IsOver : List ℕ → List (List ℕ) → Type 0
 IsOver text after = (after ≡ []) × ((front : List ℕ) × (text ≡ front ++ 10 ∷ []))
 
 ends_so : (plays : List Play) (text : List ℕ) (after : List (List ℕ)) → (IsOver text after → ⊥) → after ≡ [] → NoJournal plays text
@@ -310,3 +312,41 @@ lines_few_from b lines n l false = omega (arith, begun_few b lines)
 pub lines_few : (text : List ℕ) → length (lines_of text) ≤ length text
 lines_few [] = omega arith
 lines_few (b ∷ text) = lines_few_from b (lines_of text) (length text) (lines_few text) (nat_eq b 10)
+
+pub middle_few : (text : List ℕ) (middle : List (List ℕ)) → lines_of text ≡ first_line ∷ middle → length middle < length text
+middle_few text middle first = omega (arith, ap length first, lines_few text)
+
+pub entries_few : (plays : List Play) (text : List ℕ) (middle : List (List ℕ)) (entries : List Entry) (after : List (List ℕ))
+    → lines_of text ≡ first_line ∷ middle → AreEntries plays middle entries after → length entries + 1 < length text
+entries_few plays text middle entries after first are =
+    omega (arith, middle_few text middle first, simp (length-append, length-map) at (ap length are.split))
+
+pub on_bad_line : (plays : List Play) (text : List ℕ) (middle : List (List ℕ)) (e : JournalError) → Named plays → lines_of text ≡ first_line ∷ middle
+    → OnBad e (Stops plays middle) → OnBad e (IsBadAt plays text)
+on_bad_line plays text middle (Bad line) named first stops = bad_line plays text middle line named first stops
+on_bad_line plays text middle NoMemory named first stops = tt
+
+-- the text determines the journal
+one_entry : (plays : List Play) (e o : Entry) → Named plays → FitsEntry plays e → FitsEntry plays o → entry_text plays e ≡ entry_text plays o → e ≡ o
+one_entry plays e o named he ho same =
+    let found : Some e ≡ Some o = sym (entry_again plays e named he) ∙ ap (entry_in plays) same ∙ entry_again plays o named ho in
+    cc
+
+same_entries : (plays : List Play) (entries others : List Entry) (m n : ℕ) → Named plays → Fits plays entries → Fits plays others
+    → map (entry_text plays) entries ++ end_line m ∷ [] ≡ map (entry_text plays) others ++ end_line n ∷ [] → entries ≡ others
+same_entries plays [] [] m n named he ho same = refl
+same_entries plays [] (o ∷ others) m n named he ho same = let first : entry_text plays o ≡ end_line m = cc in absurd (entry_not_end plays o m ho.0 first)
+same_entries plays (e ∷ entries) [] m n named he ho same = let first : entry_text plays e ≡ end_line n = cc in absurd (entry_not_end plays e n he.0 first)
+same_entries plays (e ∷ entries) (o ∷ others) m n named he ho same =
+    let first : entry_text plays e ≡ entry_text plays o = cc in
+    let rest : map (entry_text plays) entries ++ end_line m ∷ [] ≡ map (entry_text plays) others ++ end_line n ∷ [] = cc in
+    let one = one_entry plays e o named he.0 ho.0 first in
+    let more = same_entries plays entries others m n named he.1 ho.1 rest in
+    cc
+
+pub one_journal_lem : (plays : List Play) (entries others : List Entry) → Named plays → Fits plays entries → Fits plays others
+    → journal_text plays entries ≡ journal_text plays others → entries ≡ others
+one_journal_lem plays entries others named he ho same =
+    let lines : journal_lines plays entries ≡ journal_lines plays others = sym (lines_of-journal plays entries named he) ∙ ap lines_of same ∙ lines_of-journal plays others named ho in
+    let tails : map (entry_text plays) entries ++ end_line (length entries) ∷ [] ≡ map (entry_text plays) others ++ end_line (length others) ∷ [] = cc in
+    same_entries plays entries others (length entries) (length others) named he ho tails

@@ -18,5 +18,5 @@ pub use journal_error::JournalError;
 pub use lines::Lines;
 pub use outputs::Outputs;
 pub use play::Play;
-pub use reading::read_journal;
+pub use reading::{one_journal, read_journal};
 pub use writing::journal_text;

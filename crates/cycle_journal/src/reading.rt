@@ -41,6 +41,12 @@ pub fn read_journal(
     Ok(entries)
 }
 
+/// Different journals that fit the same plays have different texts, so the text determines the journal.
+pub fn one_journal()
+    ensures { (plays : List one_play) (entries others : List one_entry) → Named plays → Fits plays entries → Fits plays others
+        → journal_text plays entries ≡ journal_text plays others → entries ≡ others }
+{}
+
 /// Reads the first line, which has to be that of every journal.
 fn takes_first(lines: &mut Lines<'_>) -> bool
     ensures { MatchBool result (lines.old ≡ codes "load 1" ∷ lines.new) ((after : List (List ℕ)) → lines.old ≡ codes "load 1" ∷ after → ⊥) }
