@@ -107,19 +107,19 @@ outputs_again (x ∷ xs) l h =
 
 -- answers
 
-not_empty : (front rest : List ℕ) (b : ℕ) → bytes_eq (front ++ b ∷ rest) [] ≡ false
+not_empty : (front rest : List ℕ) (b : ℕ) → ended_in (front ++ b ∷ rest) ≡ done_in (front ++ b ∷ rest)
+unfolding ended_in
 not_empty [] rest b = refl
 not_empty (x ∷ front) rest b = refl
 
 done_again : (ticks : ℕ) (outputs : List ℕ) → ticks < 2 ^ 32 → length outputs ≤ 256 → AllByRecursion (λ b. b < 256) outputs
     → ended_in (decimal ticks ++ 32 ∷ image outputs) ≡ Some (Done ticks outputs)
-unfolding ended_in done_in
+unfolding done_in
 done_again ticks outputs ht l h =
     let text = decimal ticks ++ 32 ∷ image outputs in
-    let apart = not_empty (decimal ticks) (image outputs) 32 in
     let n : number_in (front_word text) ≡ Some ticks = ap number_in (first_word (decimal ticks) (image outputs) (decimal_above ticks)) ∙ number_again ticks ht in
     let bytes : outputs_in (behind_word text) ≡ Some outputs = ap outputs_in (after_word (decimal ticks) (image outputs) (decimal_above ticks)) ∙ outputs_again outputs l h in
-    rw (apart, n, bytes)
+    not_empty (decimal ticks) (image outputs) 32 ∙ rw (n, bytes)
 
 fault_again : (fault : Stop) → fault.line < 2 ^ 32 → fault_in (fault_name fault.kind ++ 32 ∷ decimal fault.line) ≡ Some (Fault fault)
 unfolding fault_in

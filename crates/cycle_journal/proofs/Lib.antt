@@ -6,3 +6,5 @@ pub mod InkLaws
 pub mod AgainLaws
 pub mod ReaderLaws
 pub mod JournalLaws
+pub mod InterleavingLaws
+pub mod SummaryExample

@@ -3,3 +3,5 @@ pub mod Names
 pub mod Journal
 pub mod Reading
 pub mod Reader
+pub mod Interleaving
+pub mod Summary

@@ -108,7 +108,8 @@ refused_in text =
     else (refusal_in text >>= λ r. Some (Refused r))
 
 unfoldable pub ended_in : List ℕ → Option Answer
-ended_in text = if bytes_eq text [] then Some Released else done_in text
+ended_in [] = Some Released
+ended_in (b ∷ bytes) = done_in (b ∷ bytes)
 
 -- the answer of a word and what stands behind it
 unfoldable pub answer_of : List ℕ → List ℕ → Option Answer

@@ -79,11 +79,10 @@ fn answer_of(alloc: Global, word: &str, text: &str) -> Result<Answer, LineError>
 fn ended(text: &str) -> Result<Answer, LineError>
     ensures { Gives result (ended_in text.now) }
 {
-    if text == "" {
-        Ok(Answer::Released)
-    } else {
-        done(text)
+    if text.is_empty() {
+        return Ok(Answer::Released);
     }
+    done(text)
 }
 
 #[tactic(auto, unfolding(crate::specs::Reading::done_in))]

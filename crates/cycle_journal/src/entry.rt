@@ -2,7 +2,7 @@ use crate::outputs::Outputs;
 use plc_text::{Fault, Refusal};
 
 /// What a cycle of a program gives.
-#[derive(Debug, Drop)]
+#[derive(Debug, Drop, PartialEq, Eq)]
 pub enum CycleReply {
     /// The cycle ended.
     Done {
@@ -15,7 +15,7 @@ pub enum CycleReply {
 }
 
 /// What a play was answered.
-#[derive(Debug, Drop)]
+#[derive(Debug, Drop, PartialEq, Eq)]
 pub enum Answer {
     /// The cycle ended.
     Done {
@@ -41,7 +41,7 @@ pub enum Answer {
 }
 
 /// One line of the journal.
-#[derive(Debug, Drop)]
+#[derive(Debug, Drop, PartialEq, Eq)]
 pub struct Entry {
     /// The version loaded when the entry was made.
     pub version: u32,

@@ -4,6 +4,7 @@
 mod candidate;
 mod entry;
 mod fits;
+mod interleaving;
 mod journal_error;
 mod line_error;
 mod lines;
@@ -14,6 +15,7 @@ mod words;
 mod writing;
 
 pub use entry::{Answer, CycleReply, Entry};
+pub use interleaving::interleaving_laws;
 pub use journal_error::JournalError;
 pub use lines::Lines;
 pub use outputs::Outputs;
