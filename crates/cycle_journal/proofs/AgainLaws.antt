@@ -1,5 +1,5 @@
 -- An entry's own line gives the entry.
-use Rattle.std.proofs.Common.{◌≡◌, ◌≢◌, ℕ, zero, suc, ◌+◌, ◌*◌, ◌/◌, ◌<◌, ◌≤◌, ◌^◌, Bool, true, false, ◌&&◌, List, [], ◌∷◌, ◌++◌, length, Option, Some, None, Result, Ok, refl, sym, ap, ◌∙◌, subst, arith, append_assoc}
+use Rattle.std.proofs.Common.{◌≡◌, ℕ, zero, suc, ◌*◌, ◌/◌, ◌<◌, ◌≤◌, ◌^◌, Bool, true, false, ◌&&◌, List, [], ◌∷◌, ◌++◌, length, Option, Some, None, refl, ap, ◌∙◌, subst, arith, append_assoc}
 use Rattle.std.specs.Prelude.{codes, nat_eq, nat_lt, nat_le, slice_get}
 use Rattle.std.specs.Fmt.{decimal}
 use Rattle.std.specs.List.{list_all, AllByRecursion}
@@ -13,9 +13,9 @@ use Rattle.hex.proofs.HexLemmas.{decode_sized-encode_lower, length-encode_with}
 use Rattle.plc_text.specs.Code.{code_name}
 use Rattle.plc_text.specs.Fault.{fault_name}
 use Rattle.plc_text.specs.declared.code.Code.{Code}
-use Rattle.plc_text.specs.declared.code.Code.TheVariants.{E01, E02, E03, E04, E05, E06, E07, E08, E09, E10, E11, E12, E13, E14, E15, E16, E17}
+use Rattle.plc_text.specs.declared.code.Code.TheVariants.{E01}
 use Rattle.plc_text.specs.declared.fault.FaultKind.{FaultKind}
-use Rattle.plc_text.specs.declared.fault.FaultKind.TheVariants.{Divide, Index, Null, Step, Watchdog, Depth}
+use Rattle.plc_text.specs.declared.fault.FaultKind.TheVariants.{Divide}
 use Rattle.plc_text.specs.declared.fault.Fault.{Fault as Stop}
 use Rattle.plc_text.specs.declared.refusal.Refusal.{Refusal}
 use Rattle.cycle_journal.specs.declared.play.Play.{Play}
@@ -25,11 +25,11 @@ use Rattle.cycle_journal.specs.declared.entry.Answer.{Answer}
 use Rattle.cycle_journal.specs.declared.entry.Answer.TheVariants.{Done, Fault, Held, NoTask, Loaded, Refused, RefusedMemory, Released}
 use Rattle.cycle_journal.specs.Names.{is_name}
 use Rattle.cycle_journal.specs.Journal.{play_numbered, image, kind_text, answer_text, play_text, entry_text, name_of, is_declaration, FitsAnswer, FitsEntry, Named}
-use Rattle.cycle_journal.specs.Reading.{front_word, behind_word, is_digit, is_number, number, number_in, code_in, fault_kind_in, hex_in, outputs_in, done_in, ended_in, fault_in, kind_in, refusal_of, refusal_in, refused_in, answer_of, behind_play, answer_in, entry_in}
+use Rattle.cycle_journal.specs.Reading.{front_word, behind_word, is_digit, is_number, number, number_in, code_in, fault_kind_in, hex_in, outputs_in, done_in, ended_in, fault_in, kind_in, refusal_in, refused_in, answer_of, behind_play, answer_in, entry_in}
 use Rattle.cycle_journal.proofs.LineLaws.{HoldsNo}
 use Rattle.cycle_journal.proofs.WordLaws.{numerals, front_word-space, behind_word-space, front_word-all, behind_word-all}
 use Rattle.cycle_journal.proofs.RefusalLaws.{refusal_again}
-use Rattle.cycle_journal.proofs.InkLaws.{Above, above_no, decimal_above, name_above, declaration_above, image_above, code_above, fault_above, IsBytes-from_all}
+use Rattle.cycle_journal.proofs.InkLaws.{Above, above_no, decimal_above, name_above, declaration_above, code_above, fault_above, IsBytes-from_all}
 
 -- words
 unspaced : (word : List ℕ) → Above 32 word → HoldsNo 32 word
@@ -242,8 +242,8 @@ entry_again plays e named h =
     let twice : behind_word (behind_word text) ≡ answer = ap behind_word behind ∙ after_word (decimal e.play) answer (decimal_above e.play) in
     let version : number_in (front_word text) ≡ Some e.version = ap number_in (first_word (decimal e.version) rest (decimal_above e.version)) ∙ number_again e.version h.version-fits in
     let number : number_in (front_word (behind_word text)) ≡ Some e.play =
-        ap (λ t. number_in (front_word t)) behind ∙ ap number_in (first_word (decimal e.play) answer (decimal_above e.play)) ∙ number_again e.play h.play-fits in
+    ap (λ t. number_in (front_word t)) behind ∙ ap number_in (first_word (decimal e.play) answer (decimal_above e.play)) ∙ number_again e.play h.play-fits in
     let found = h.play-is in
     let read : answer_in h.play (behind_word (behind_word text)) ≡ Some e.answer =
-        ap (answer_in h.play) (twice ∙ ap (λ p. play_text p ++ 32 ∷ answer_text e.answer) found) ∙ answer_read h.play e.version e.answer (named_play plays e.play h.play named found) h.answer-fits in
+    ap (answer_in h.play) (twice ∙ ap (λ p. play_text p ++ 32 ∷ answer_text e.answer) found) ∙ answer_read h.play e.version e.answer (named_play plays e.play h.play named found) h.answer-fits in
     ap (entry_in plays) (entry_fields plays e) ∙ entry_from_parts plays text e.version e.play h.play e.answer version number found read

@@ -1,21 +1,21 @@
 -- Texts of bytes above a number: words are of bytes above the space (32), and lines of bytes above LF.
-use Rattle.std.proofs.Common.{◌≡◌, ◌≢◌, ◌⊎◌, inl, inr, ⊎_elim, ℕ, zero, suc, ◌+◌, ◌%◌, ◌/◌, ◌<◌, ◌≤◌, Bool, true, false, ◌&&◌, ◌||◌, List, [], ◌∷◌, ◌++◌, Option, Some, None, refl, sym, ap, ◌∙◌, subst, arith}
-use Rattle.std.specs.Prelude.{codes, nat_lt, nat_le, nat_eq, if◌then◌else◌, cond}
+use Rattle.std.proofs.Common.{◌≡◌, ◌⊎◌, inl, inr, ⊎_elim, ℕ, zero, suc, ◌+◌, ◌%◌, ◌/◌, ◌<◌, ◌≤◌, Bool, true, false, ◌&&◌, ◌||◌, List, [], ◌∷◌, ◌++◌, refl, sym, subst, arith}
+use Rattle.std.specs.Prelude.{codes, nat_lt, nat_le, nat_eq, cond}
 use Rattle.std.specs.Fmt.{decimal, digits, digits_onto, digit_glyph}
 use Rattle.std.specs.List.{list_all, AllByRecursion}
 use Rattle.std.specs.Str.{bytes_eq}
-use Rattle.std.proofs.lemmas.Bool.{and_parts, false≢true, leb-true, ltb-true, lt-ltb, le-ltb}
+use Rattle.std.proofs.lemmas.Bool.{and_parts, false≢true, leb-true, ltb-true, lt-ltb}
 use Rattle.std.proofs.lemmas.Bool.Decides.{nat_tests}
 use Rattle.std.proofs.lemmas.List.Sums.{list_all-from_AllPass}
 use Rattle.std.proofs.lemmas.Slice.Eq.{bytes_eq-Decides}
-use Rattle.hex.specs.Hex.{encode_lower, hex_digit_value, is_hex_digit, decode_of, IsBytes}
+use Rattle.hex.specs.Hex.{encode_lower, is_hex_digit, IsBytes}
 use Rattle.hex.proofs.HexLemmas.{decode_of-encode_lower, decode_of-ok}
 use Rattle.plc_text.specs.Code.{code_name}
 use Rattle.plc_text.specs.Fault.{fault_name}
 use Rattle.plc_text.specs.declared.code.Code.{Code}
-use Rattle.plc_text.specs.declared.code.Code.TheVariants.{E01, E02, E03, E04, E05, E06, E07, E08, E09, E10, E11, E12, E13, E14, E15, E16, E17}
+use Rattle.plc_text.specs.declared.code.Code.TheVariants.{E01}
 use Rattle.plc_text.specs.declared.fault.FaultKind.{FaultKind}
-use Rattle.plc_text.specs.declared.fault.FaultKind.TheVariants.{Divide, Index, Null, Step, Watchdog, Depth}
+use Rattle.plc_text.specs.declared.fault.FaultKind.TheVariants.{Divide}
 use Rattle.cycle_journal.specs.Names.{is_name_letter, is_name_character, is_name}
 use Rattle.cycle_journal.specs.Journal.{image, is_declaration}
 use Rattle.cycle_journal.proofs.LineLaws.{HoldsNo}
@@ -68,7 +68,7 @@ onto_above (suc k) n rest h =
     let first = both_true (nat_lt 32 (digit_glyph false (n % 10))) (list_all (nat_lt 32) rest) (glyph_above (n % 10) (omega arith)) h in
     let P : List ℕ → Type 0 = λ text. Above 32 text in
     elim (nat_eq (n / 10) 0) as (λ b. P (cond b (digit_glyph false (n % 10) ∷ rest) (digits_onto k 10 false (n / 10) (digit_glyph false (n % 10) ∷ rest)))) [
-      true ↦ first
+      | true ↦ first
       | false ↦ onto_above k (n / 10) (digit_glyph false (n % 10) ∷ rest) first
     ]
 

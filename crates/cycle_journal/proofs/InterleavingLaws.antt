@@ -1,6 +1,6 @@
 -- How often a play's number stands in an interleaving.
-use Rattle.std.proofs.Common.{◌≡◌, ⊎_elim, ℕ, zero, suc, ◌+◌, ◌-◌, ◌<◌, ◌≤◌, Bool, true, false, ◌&&◌, List, [], ◌∷◌, ◌++◌, length, map, refl, sym, ap, ◌∙◌, subst, arith, length-append}
-use Rattle.std.specs.Prelude.{nat_eq, nat_le, nat_lt, if◌then◌else◌}
+use Rattle.std.proofs.Common.{◌≡◌, ⊎_elim, ℕ, zero, suc, ◌+◌, ◌-◌, ◌<◌, ◌≤◌, Bool, true, false, List, [], ◌∷◌, ◌++◌, length, refl, sym, ap, ◌∙◌, arith, length-append}
+use Rattle.std.specs.Prelude.{nat_eq, nat_le, if◌then◌else◌}
 use Rattle.std.specs.List.{filter, range_with_len}
 use Rattle.std.proofs.lemmas.Bool.Decides.{nat_tests}
 use Rattle.std.proofs.lemmas.Bool.{cases_lt, cases_order}
@@ -8,7 +8,7 @@ use Rattle.std.proofs.lemmas.List.{append-nil}
 use Rattle.std.proofs.lemmas.List.Elements.{filter-append}
 use Rattle.cycle_journal.specs.declared.play.Play.{Play}
 use Rattle.cycle_journal.specs.declared.entry.Entry.{Entry}
-use Rattle.cycle_journal.specs.Interleaving.{Phase, Lane, in_lane, has_play, times, numbers_of_phase, IsPhase, InPhases, numbers_of, Interleaves, InOrder, Follow}
+use Rattle.cycle_journal.specs.Interleaving.{Phase, in_lane, has_play, times, numbers_of_phase, IsPhase, InPhases, numbers_of, Interleaves, InOrder, Follow}
 
 times_append : (n : ℕ) (xs ys : List ℕ) → times n (xs ++ ys) ≡ times n xs + times n ys
 times_append n xs ys = ap length (filter-append (λ m. nat_eq m n) xs ys) ∙ length-append (filter (λ m. nat_eq m n) xs) (filter (λ m. nat_eq m n) ys)
@@ -49,12 +49,12 @@ one_phase-if : (phase : Phase) (phases : List Phase) (behind n : ℕ) → phase.
 one_phase-if phase phases behind n l follow later =
     ⊎_elim
     (λ (k : n < phase.1).
-      let has = has_it n phase l k in
-      let others = none_before phases phase.1 behind n follow k in
-      rw has (ap suc others))
+    let has = has_it n phase l k in
+    let others = none_before phases phase.1 behind n follow k in
+    rw has (ap suc others))
     (λ (k : phase.1 ≤ n).
-      let not = has_not_behind n phase k in
-      rw not (later k)) (cases_lt n phase.1)
+    let not = has_not_behind n phase k in
+    rw not (later k)) (cases_lt n phase.1)
 
 one_phase : (phases : List Phase) (first behind n : ℕ) → Follow first phases behind → first ≤ n → n < behind → length (filter (has_play n) phases) ≡ 1
 one_phase [] first behind n h l k = absurd (omega (arith, h))
@@ -78,17 +78,17 @@ times_more : (first behind n : ℕ) (rest : List ℕ) → first < behind → tim
 times_more first behind n rest room h =
     ⊎_elim
     (λ (e : first ≡ n).
-      let is : nat_eq first n ≡ true = grind (arith, nat_tests) in
-      let before = has_not_before n (suc first, behind) (omega arith) in
-      let has = has_it n (first, behind) (omega arith) (omega arith) in
-      let none : times n rest ≡ 0 = rw before at h in
-      rw (is, has) (ap suc none))
+    let is : nat_eq first n ≡ true = grind (arith, nat_tests) in
+    let before = has_not_before n (suc first, behind) (omega arith) in
+    let has = has_it n (first, behind) (omega arith) (omega arith) in
+    let none : times n rest ≡ 0 = rw before at h in
+    rw (is, has) (ap suc none))
     (λ apart.
-      let is : nat_eq first n ≡ false = ⊎_elim (λ (l : first < n). grind (arith, nat_tests)) (λ (l : n < first). grind (arith, nat_tests)) apart in
-      let same : has_play n (suc first, behind) ≡ has_play n (first, behind) =
-          ⊎_elim (λ (l : first < n). sym (goes_on first behind n l))
-          (λ (l : n < first). has_not_before n (suc first, behind) (omega arith) ∙ sym (has_not_before n (first, behind) l)) apart in
-      rw is (h ∙ ap (λ has. if has then 1 else 0) same)) (cases_order first n)
+    let is : nat_eq first n ≡ false = ⊎_elim (λ (l : first < n). grind (arith, nat_tests)) (λ (l : n < first). grind (arith, nat_tests)) apart in
+    let same : has_play n (suc first, behind) ≡ has_play n (first, behind) =
+    ⊎_elim (λ (l : first < n). sym (goes_on first behind n l))
+    (λ (l : n < first). has_not_before n (suc first, behind) (omega arith) ∙ sym (has_not_before n (first, behind) l)) apart in
+    rw is (h ∙ ap (λ has. if has then 1 else 0) same)) (cases_order first n)
 
 times_range : (len first behind n : ℕ) → behind ≡ first + len → times n (range_with_len first len) ≡ (if has_play n (first, behind) then 1 else 0)
 times_range zero first behind n e =

@@ -1,5 +1,5 @@
 -- The lines of a journal's text, and which lines a journal can begin with.
-use Rattle.std.proofs.Common.{◌≡◌, ◌≢◌, ◌⊎◌, inl, inr, ⊎_elim, ℕ, zero, suc, ◌+◌, ◌-◌, ◌<◌, ◌≤◌, ◌^◌, Bool, true, false, List, [], ◌∷◌, ◌++◌, length, map, take, Option, Some, None, refl, sym, ap, ◌∙◌, subst, arith, append_assoc, length-append}
+use Rattle.std.proofs.Common.{◌≡◌, ◌⊎◌, inl, inr, ⊎_elim, ℕ, suc, ◌+◌, ◌-◌, ◌<◌, ◌≤◌, Bool, true, false, List, [], ◌∷◌, ◌++◌, length, map, take, Option, Some, None, refl, sym, ap, ◌∙◌, subst, arith, append_assoc, length-append}
 use Rattle.std.specs.Prelude.{codes, nat_eq, if◌then◌else◌}
 use Rattle.std.specs.Fmt.{decimal}
 use Rattle.std.specs.List.{AllByRecursion, flat_map}
@@ -19,7 +19,7 @@ use Rattle.cycle_journal.specs.Journal.{play_numbered, image, kind_text, answer_
 use Rattle.cycle_journal.specs.Reading.{front_word, number_in, entry_in}
 use Rattle.cycle_journal.specs.declared.journal_error.JournalError.{JournalError}
 use Rattle.cycle_journal.specs.declared.journal_error.JournalError.TheVariants.{Bad, NoMemory}
-use Rattle.cycle_journal.specs.Reader.{OnBad, CanBegin, FirstBad, NoJournal, IsNoEntry, IsNoLine, Stops, AreEntries, end_line}
+use Rattle.cycle_journal.specs.Reader.{OnBad, CanBegin, FirstBad, NoJournal, IsNoLine, Stops, AreEntries, end_line}
 use Rattle.cycle_journal.proofs.LineLaws.{HoldsNo, lines_of-ended, text_of-last}
 use Rattle.cycle_journal.proofs.InkLaws.{Above, above_append, above_no, above_less, decimal_above, name_above, declaration_above, image_above, code_above, fault_above}
 use Rattle.cycle_journal.proofs.AgainLaws.{entry_again, entry_fields, first_word, number_again, named_play}
@@ -204,24 +204,6 @@ bad_at plays text front rest line split number can none whole =
 abbrev pub first_line : List ℕ
 first_line = codes "load 1"
 
--- the first line is none of a journal
-can_begin-nothing : (plays : List Play) → CanBegin plays []
-can_begin-nothing plays = ([], lines_of (journal_text plays []), tt, refl)
-
-no_first : (plays : List Play) (lines : List (List ℕ)) → Named plays → ((after : List (List ℕ)) → lines ≡ first_line ∷ after → ⊥) → NoNext plays [] lines
-no_first plays [] named none = tt
-no_first plays (line ∷ more) named none = λ can.
-    let whole : journal_lines plays can.0 ≡ line ∷ can.1 = sym (lines_of-journal plays can.0 named can.2) ∙ can.3 in
-    let same : line ≡ first_line = cc in
-    none more (ap (λ l. l ∷ more) same)
-
-no_lines : (plays : List Play) (text : List ℕ) → Named plays → ((after : List (List ℕ)) → lines_of text ≡ first_line ∷ after → ⊥) → NoJournal plays text
-no_lines plays text named none entries fit same = none _ (ap lines_of same ∙ lines_of-journal plays entries named fit)
-
-pub bad_first : (plays : List Play) (text : List ℕ) → Named plays → ((after : List (List ℕ)) → lines_of text ≡ first_line ∷ after → ⊥) → IsBadAt plays text 1
-bad_first plays text named none =
-    bad_at plays text [] (lines_of text) 1 refl refl (can_begin-nothing plays) (no_first plays (lines_of text) named none) (λ e. no_lines plays text named none)
-
 -- a line behind entries
 abbrev begun : List Play → List Entry → List (List ℕ)
 begun plays entries = first_line ∷ map (entry_text plays) entries
@@ -262,7 +244,7 @@ no_more plays entries (line ∷ more) named fit = λ can.
     let last = end_line (length entries) in
     let whole : journal_lines plays can.0 ≡ (journal_lines plays entries ++ line ∷ []) ++ can.1 = sym (lines_of-journal plays can.0 named can.2) ∙ can.3 in
     let lines : begun plays can.0 ++ end_line (length can.0) ∷ [] ≡ begun plays entries ++ last ∷ line ∷ can.1 =
-        whole ∙ append_assoc (journal_lines plays entries) (line ∷ []) can.1 ∙ append_assoc (begun plays entries) (last ∷ []) (line ∷ can.1) in
+    whole ∙ append_assoc (journal_lines plays entries) (line ∷ []) can.1 ∙ append_assoc (begun plays entries) (last ∷ []) (line ∷ can.1) in
     let tails : map (entry_text plays) entries ++ last ∷ line ∷ can.1 ≡ map (entry_text plays) can.0 ++ end_line (length can.0) ∷ [] = cc in
     ⊎_elim (λ (h : (last ≡ end_line (length can.0)) × (length can.0 ≡ length entries) × (line ∷ can.1 ≡ [])). let e = h.2 in cc)
     (λ (h : (e : Entry) × FitsEntry plays e × (last ≡ entry_text plays e)). entry_not_end plays h.0 (length entries) h.1 (sym h.2))

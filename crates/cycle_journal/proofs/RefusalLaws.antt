@@ -1,10 +1,10 @@
 -- A refusal is determined by its parts.
-use Rattle.std.proofs.Common.{◌≡◌, ◌≢◌, ℕ, Bool, true, false, List, Option, Some, None, refl, sym, ap, ◌∙◌}
+use Rattle.std.proofs.Common.{◌≡◌, ℕ, List, Option, Some, None, refl, ap, ◌∙◌}
 use Rattle.std.specs.Prelude.{is_some}
 use mathlib.Core.Bool.{Bool-set}
 use Rattle.plc_text.specs.Code.{is_e17}
 use Rattle.plc_text.specs.declared.code.Code.{Code}
-use Rattle.plc_text.specs.declared.code.Code.TheVariants.{E01, E02, E03, E04, E05, E06, E07, E08, E09, E10, E11, E12, E13, E14, E15, E16, E17}
+use Rattle.plc_text.specs.declared.code.Code.TheVariants.{E17}
 use Rattle.plc_text.specs.declared.fault.FaultKind.{FaultKind}
 use Rattle.plc_text.specs.declared.refusal.Refusal.{Refusal}
 use Rattle.cycle_journal.specs.Reading.{refusal_of}
@@ -25,14 +25,6 @@ pub refusal_of-some : (code : Code) (declaration : List ℕ) (line : ℕ) (kind 
 refusal_of-some code declaration line kind p =
     let found = some_refusal code declaration line kind p in
     found.1 ∙ ap (λ (q : is_some kind ≡ is_e17 code). Some (refusal_with code declaration line kind q)) (Bool-set (is_some kind) (is_e17 code) found.0 p)
-
-pub refusal_of-none : (code : Code) (declaration : List ℕ) (line : ℕ) (kind : Option FaultKind) → is_some kind ≢ is_e17 code
-    → refusal_of code declaration line kind ≡ None
-unfolding refusal_of
-refusal_of-none E17 declaration line (Some kind) h = absurd (h refl)
-refusal_of-none E17 declaration line None h = refl
-refusal_of-none _ declaration line (Some kind) h = refl
-refusal_of-none _ declaration line None h = absurd (h refl)
 
 pub refusal_again : (r : Refusal) → refusal_of r.code r.declaration r.line r.kind ≡ Some r
 refusal_again r = refusal_of-some r.code r.declaration r.line r.kind r.kind_with_e17

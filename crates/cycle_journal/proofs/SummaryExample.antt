@@ -1,10 +1,10 @@
 -- The account of a journal that was made by hand.
-use Rattle.std.proofs.Common.{◌≡◌, ℕ, List, [], ◌∷◌, ◌++◌, Option, Some, None, refl}
+use Rattle.std.proofs.Common.{◌≡◌, List, [], ◌∷◌, refl}
 use Rattle.std.specs.Prelude.{codes}
 use Rattle.std.specs.Fmt.{digits}
 use Rattle.hex.specs.Hex.{encode_with}
 use Rattle.cycle_journal.specs.declared.play.Play.{Play}
-use Rattle.cycle_journal.specs.declared.play.Play.TheVariants.{Cycle, Change, Reset}
+use Rattle.cycle_journal.specs.declared.play.Play.TheVariants.{Cycle, Change}
 use Rattle.cycle_journal.specs.declared.entry.Entry.{Entry}
 use Rattle.cycle_journal.specs.declared.entry.Answer.TheVariants.{Done, Held, Loaded}
 use Rattle.cycle_journal.specs.Summary.{summary}

@@ -1,7 +1,7 @@
 -- The journal as text: the version loaded first, a line for each entry, and the number of entries.
 use Rattle.std.specs.Prelude.{◌≡◌, ℕ, zero, suc, ◌+◌, ◌≤◌, ◌<◌, ◌^◌, Bool, true, false, ◌||◌, List, [], ◌∷◌, ◌++◌, length, slice_get, codes, Option, Some, None, map}
 use Rattle.std.specs.Fmt.{decimal}
-use Rattle.std.specs.List.{flat_map, AllByRecursion}
+use Rattle.std.specs.List.{AllByRecursion}
 use Rattle.std.specs.Str.{bytes_eq}
 use Rattle.plc_text.specs.Hex.{encode_lower}
 use Rattle.plc_text.specs.Code.{code_name}
@@ -13,7 +13,7 @@ use Rattle.cycle_journal.specs.declared.entry.Entry.{Entry}
 use Rattle.cycle_journal.specs.declared.entry.Answer.{Answer}
 use Rattle.cycle_journal.specs.declared.entry.Answer.TheVariants.{Done, Fault, Held, NoTask, Loaded, Refused, RefusedMemory, Released}
 use Rattle.cycle_journal.specs.Names.{is_name}
-use Rattle.cycle_journal.specs.Lines.{ended, text_of}
+use Rattle.cycle_journal.specs.Lines.{text_of}
 
 -- the play of this number; plays are numbered from 1
 abbrev pub play_numbered : List Play → ℕ → Option Play

@@ -1,10 +1,9 @@
 //! Whether an entry is one for the plays.
 ghost use Rattle.std.specs.Prelude.{◌≡◌, ◌↔◌, IsTrue};
-ghost use Rattle.std.specs.List.{list_all};
 ghost use Rattle.cycle_journal.specs.Journal.{may_answer as may_answer_of, is_declaration as is_declaration_of, FitsAnswer, FitsEntry};
-ghost use Rattle.cycle_journal.specs.Names.{is_name as is_name_of, is_name_letter as is_name_letter_of, is_name_character as is_name_character_of};
 
 use crate::entry::{Answer, Entry};
+use crate::names::is_name;
 use crate::outputs::OUTPUT_LIMIT;
 use crate::play::Play;
 use crate::writing::play_numbered;
@@ -65,31 +64,4 @@ fn is_declaration(text: &str) -> bool
     ensures { result ≡ is_declaration_of text.now }
 {
     text == "-" || is_name(text.as_bytes())
-}
-
-fn is_name_letter(byte: u8) -> bool
-    ensures { result ≡ is_name_letter_of byte }
-{
-    byte.is_ascii_uppercase() || byte == b'_'
-}
-
-fn is_name_character(byte: u8) -> bool
-    ensures { result ≡ is_name_character_of byte }
-{
-    is_name_letter(byte) || byte.is_ascii_digit()
-}
-
-fn is_name(bytes: &[u8]) -> bool
-    ensures { result ≡ is_name_of bytes.now }
-{
-    match bytes.split_first() {
-        Some((first, others)) => is_name_letter(*first) && are_name_characters(others),
-        None => false,
-    }
-}
-
-fn are_name_characters(bytes: &[u8]) -> bool
-    ensures { result ≡ list_all is_name_character_of bytes.now }
-{
-    bytes.iter().all(|byte| is_name_character(*byte))
 }

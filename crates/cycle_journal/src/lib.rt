@@ -8,9 +8,12 @@ mod interleaving;
 mod journal_error;
 mod line_error;
 mod lines;
+mod names;
 mod outputs;
 mod play;
 mod reading;
+#[cfg(test)]
+mod tests;
 mod words;
 mod writing;
 
@@ -19,6 +22,6 @@ pub use interleaving::interleaving_laws;
 pub use journal_error::JournalError;
 pub use lines::Lines;
 pub use outputs::Outputs;
-pub use play::Play;
+pub use play::{Play, are_named};
 pub use reading::{one_journal, read_journal};
 pub use writing::journal_text;

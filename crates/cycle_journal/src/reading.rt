@@ -18,11 +18,7 @@ use plc_text::{Items, NoMemory, Text};
 use std::alloc::Global;
 
 /// The journal that the text is. The plays have names in upper case, and the text is so short that its lines can be counted.
-pub fn read_journal(
-    alloc: Global,
-    plays: &[Play],
-    text: &str,
-) -> Result<Items<Entry>, JournalError>
+pub fn read_journal(alloc: Global, plays: &[Play], text: &str) -> Result<Items<Entry>, JournalError>
     requires named { Named plays.now }
     requires size { length text.now < 4294967295 }
     // The entries fit, and the text is theirs.
@@ -95,12 +91,7 @@ fn read_entries(
 }
 
 /// The entry of the line of this number.
-fn entry_at(
-    alloc: Global,
-    plays: &[Play],
-    line: &str,
-    number: u32,
-) -> Result<Entry, JournalError>
+fn entry_at(alloc: Global, plays: &[Play], line: &str, number: u32) -> Result<Entry, JournalError>
     requires { Named plays.now }
     ensures ok { IfOk result (λ e. FitsEntry plays.now e × (line.now ≡ entry_text plays.now e)) }
     ensures bad { IfErr result (λ e. OnBad e (λ bad. (bad ≡ number) × IsNoEntry plays.now line.now)) }
@@ -137,12 +128,7 @@ fn read_entry(alloc: Global, plays: &[Play], line: &str) -> Result<Entry, LineEr
 }
 
 /// Whether the entry is one for these plays, and the line is its own.
-fn is_line_of(
-    alloc: Global,
-    plays: &[Play],
-    entry: &Entry,
-    line: &str,
-) -> Result<bool, NoMemory>
+fn is_line_of(alloc: Global, plays: &[Play], entry: &Entry, line: &str) -> Result<bool, NoMemory>
     ensures { IfOk result (λ is. IsTrue is ↔ (FitsEntry plays.now entry.now × (line.now ≡ entry_text plays.now entry.now))) }
 {
     if !fits(plays, entry) {

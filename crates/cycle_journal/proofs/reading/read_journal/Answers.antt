@@ -1,8 +1,7 @@
-use Rattle.std.proofs.Common.{◌≡◌, ◌<◌, ◌+◌, ◌∷◌, length, sym, ap, ◌∙◌, arith}
+use Rattle.std.proofs.Common.{◌+◌, sym, ap, ◌∙◌, arith}
 use Rattle.std.proofs.lemmas.Result.{err_from_is_err_and}
 use Rattle.std.proofs.lemmas.Bool.{false≢true}
-use Rattle.cycle_journal.specs.Lines.{lines_of}
-use Rattle.cycle_journal.proofs.JournalLaws.{first_line, middle_few, entries_few, on_bad_line, bad_after, is_journal}
+use Rattle.cycle_journal.proofs.JournalLaws.{middle_few, entries_few, on_bad_line, bad_after, is_journal}
 use Rattle.cycle_journal.proofs.reading.read_journal.Goals as goal
 
 pub read_entries-requires-clause-size : goal.read_entries-requires-clause-size
