@@ -20,12 +20,14 @@ impl<'a> Model for Lines<'a> {
 }
 
 impl<'a> Lines<'a> {
+    /// The lines of the text. LF ends a line, and a last piece without LF is a line unless it is empty.
     pub fn new(text: &'a str) -> Lines<'a>
         ensures { result ≡ lines_of text.now }
     {
         Lines { rest: text }
     }
 
+    /// Takes the next line, if there is one. It comes without the LF that ends it.
     pub fn next_line(&mut self) -> Option<&'a str>
         ensures { MatchOption result ((self.old ≡ []) × (self.new ≡ [])) (λ line. self.old ≡ line.now ∷ self.new) }
     {

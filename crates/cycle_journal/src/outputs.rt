@@ -38,6 +38,7 @@ impl Outputs {
         }
     }
 
+    /// These bytes, of which there are few enough.
     pub fn from_slice(items: &[u8]) -> Outputs
         requires { length items.now ≤ 256 }
         ensures { result ≡ items.now }
@@ -50,8 +51,8 @@ impl Outputs {
         }
     }
 
-    #[tactic(auto, unfolding(crate::specs::Reading::hex_in))]
     /// The bytes of pairs of hexadecimal digits in either case, if they are such pairs and not too many.
+    #[tactic(auto, unfolding(crate::specs::Reading::hex_in))]
     pub fn from_hex(digits: &str) -> Option<Outputs>
         ensures { result ≡ hex_in digits.now }
     {
@@ -69,7 +70,7 @@ impl Outputs {
         }
     }
 
-    /// The bytes, each of which is below 256.
+    /// The bytes, 256 at most.
     pub fn as_slice(&self) -> &[u8]
         ensures same { result.now ≡ self.now }
         ensures few { length self.now ≤ 256 }
@@ -87,6 +88,7 @@ impl Outputs {
         bytes.len()
     }
 
+    /// Whether there are no bytes.
     pub fn is_empty(&self) -> bool
         ensures { IsTrue result ↔ (self.now ≡ []) }
     {
