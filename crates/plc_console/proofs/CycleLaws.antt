@@ -1,7 +1,7 @@
 -- The definitions of a cycle, one step of a loop at a time.
-use Rattle.std.proofs.Common.{◌≡◌, ℕ, zero, suc, ◌+◌, ◌<◌, ◌≤◌, max, ℤ, pos, true, false, cond, List, [], ◌∷◌, ◌++◌, length, map, take, get_or, set, replicate, refl, sym, ◌∙◌, ap, arith, Option, Some, None, inl, inr}
-use Rattle.std.specs.Option.{option_or}
-use Rattle.std.specs.List.{fold, flat_map, range_with_len}
+use Rattle.std.proofs.Common.{◌≡◌, ℕ, zero, suc, ◌+◌, ◌*◌, ◌<◌, ◌≤◌, max, ℤ, pos, true, false, cond, List, [], ◌∷◌, ◌++◌, length, map, take, get_or, set, replicate, refl, sym, ◌∙◌, ap, subst, arith, Option, Some, None, inl, inr}
+use Rattle.std.specs.Option.{option_or, option_map, unwrap_or}
+use Rattle.std.specs.List.{fold, flat_map, range_with_len, AllByRecursion}
 use Rattle.std.specs.Int.{w32, cast_unsigned, to_le_bytes}
 use Rattle.std.proofs.lemmas.List.{take_more, take_all, length-set, length-take-le, get_or-set_same, get_or-set_other}
 use Rattle.std.proofs.lemmas.List.FromFn.{fill_by_all, length-map-range_with_len, get_or-map-range_with_len}
@@ -12,6 +12,9 @@ use Rattle.st_reader.specs.declared.unit.Tail.{Tail}
 use Rattle.plc_console.specs.declared.program.Program.{Program}
 use Rattle.plc_console.specs.declared.program.Cell.{Cell}
 use Rattle.plc_console.specs.Meaning.{Store, Expression, Single, Binary, grouped, tree_of, apply, item_value, value, effect, effects, is_at, shown, reach, end_of, Cycle}
+use Rattle.st_reader.specs.declared.unit.Variable.{Variable}
+use Rattle.st_reader.specs.Words.{number}
+use Rattle.plc_console.specs.Accepted.{Accepted, IsGoodVariable, cell_of}
 use Rattle.plc_console.specs.Cycling.{place_from, places_below, places_of, noted, value_at, bytes_at}
 
 -- one operator and item more
@@ -125,3 +128,30 @@ replicate-range a (suc r) = ap (λ places. None ∷ places) (replicate-range (a 
 -- the table before any variable is in it
 pub places_below-none : (r : ℕ) → replicate r None ≡ places_below r []
 places_below-none r = replicate-range 0 r
+
+-- outputs within 256 bytes
+
+pub length-bytes_at : (places : List (Option ℕ)) (store : Store) → length (bytes_at places store) ≡ 4 * length places
+length-bytes_at [] store = refl
+length-bytes_at (place ∷ places) store = omega (arith, length-bytes_at places store)
+
+end_fits : (address : Option (List ℕ)) → number (unwrap_or address []) < 64 → end_of (option_map number address) ≤ 64
+end_fits None h = omega arith
+end_fits (Some digits) h = h
+
+reach_fits : (variables : List Variable) → AllByRecursion IsGoodVariable variables → reach (map cell_of variables) ≤ 64
+reach_fits [] h = omega arith
+reach_fits (v ∷ variables) h = omega (arith, end_fits v.address h.0.address-fits, reach_fits variables h.1)
+
+-- an accepted program's outputs are within 256 bytes
+pub accepted_reach : (text : List ℕ) (p : Program) → Accepted text p → reach p.variables ≤ 64
+accepted_reach text p a =
+    let P : Program → Type 0 = λ q. reach q.variables ≤ 64 in
+    subst P (sym a.program-is) (reach_fits a.unit.variables a.good.variables.each-good)
+
+-- the table of places is as long as the outputs reach
+pub places_few : (variables : List Cell) (places : List (Option ℕ)) → places ≡ places_of variables → reach variables ≤ 64 → length places ≤ 64
+places_few variables places e few = omega (arith, ap length e, length-map-range_with_len (place_from 0 variables) 0 (reach variables))
+
+pub outputs_few : (places : List (Option ℕ)) (store : Store) (bytes : List ℕ) → bytes ≡ bytes_at places store → length places ≤ 64 → length bytes ≤ 256
+outputs_few places store bytes e few = omega (arith, ap length e, length-bytes_at places store)

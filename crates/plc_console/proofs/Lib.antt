@@ -1,10 +1,8 @@
 pub mod CheckLaws
 pub mod Parts
-pub mod FirstLine
 pub mod PlayLines
 pub mod ScenarioParts
 pub mod Pieces
-pub mod JournalLaws
 pub mod AnswerLaws
 pub mod CycleLaws
 pub mod RunLaws

@@ -4,12 +4,13 @@ use Rattle.std.specs.Prelude.{codes}
 use Rattle.std.proofs.lemmas.List.{append_cancel_left, append_cancel_right}
 use Rattle.std.specs.List.{list_all}
 use Rattle.plc_text.specs.Text.{folded}
-use Rattle.plc_console.specs.declared.scenario.Play.{Play}
+use Rattle.cycle_journal.specs.declared.play.Play.{Play}
+use Rattle.cycle_journal.specs.declared.play.Play.TheVariants.{Cycle}
 use Rattle.st_reader.specs.Words.{is_letter, is_word, is_word_character, is_number, number}
 use Rattle.plc_console.specs.Scenario.{IsPlayLine, IsSourceLine}
 use Rattle.plc_console.specs.ScenarioReading.{HasParts}
 use Rattle.plc_console.proofs.Parts.{same_parts}
-use Rattle.plc_console.proofs.FirstLine.{HoldsNo}
+use Rattle.cycle_journal.proofs.LineLaws.{HoldsNo}
 
 no_space_letter : (b : ℕ) → is_letter b ≡ true → b ≢ 32
 no_space_letter b h e = let k = subst (λ (x : ℕ). is_letter x ≡ true) e h in cc
@@ -54,8 +55,7 @@ pub record PlayOf (name digits : List ℕ) (play : Play) : Type 0 where
   pub name-is : is_word name ≡ true
   pub digits-are : is_number digits ≡ true
   pub small : number digits < 2 ^ 32
-  pub task : play.task ≡ folded name
-  pub now : play.now ≡ number digits
+  pub is : play ≡ Cycle (folded name) (number digits) []
 
 pub play_by_parts : (line name digits : List ℕ) (play : Play) → HasParts line name digits → IsPlayLine line play → PlayOf name digits play
 play_by_parts line name digits play h p =
@@ -64,16 +64,13 @@ play_by_parts line name digits play h p =
       name-is = rw e.0 p.3;
       digits-are = rw e.1 p.4;
       small = rw e.1 p.5;
-      task = rw e.0 p.6;
-      now = rw e.1 p.7;
+      is = rw (e.0, e.1) p.6;
     }
 
 pub same_play : (line : List ℕ) (p q : Play) → IsPlayLine line p → IsPlayLine line q → p ≡ q
 same_play line p q h k =
     let a = play_by_parts line h.0 h.1 q (parts_of_play line p h) k in
-    let tasks : p.task ≡ q.task = h.6 ∙ sym a.task in
-    let moments : p.now ≡ q.now = h.7 ∙ sym a.now in
-    ap (λ task. record p { task = task }) tasks ∙ ap (λ now. record q { now = now }) moments
+    h.6 ∙ sym a.is
 
 -- a play's line begins with `c`
 pub play_line_source : (line : List ℕ) (play : Play) → IsPlayLine line play → IsSourceLine line

@@ -3,11 +3,11 @@ use Rattle.std.proofs.Common.{◌≡◌, ℕ, zero, suc, ◌+◌, ◌<◌, List,
 use Rattle.std.specs.List.{range_with_len}
 use Rattle.std.proofs.lemmas.List.{map-append}
 use Rattle.std.proofs.lemmas.Option.{slice_get-get_or}
-use Rattle.plc_console.specs.declared.scenario.Play.{Play}
-use Rattle.plc_console.specs.declared.journal.Entry.{Entry}
+use Rattle.cycle_journal.specs.declared.play.Play.{Play}
+use Rattle.cycle_journal.specs.declared.entry.Entry.{Entry}
 use Rattle.plc_console.specs.declared.program.Program.{Program}
 use Rattle.plc_console.specs.Meaning.{Store}
-use Rattle.plc_console.specs.Journal.{play_numbered}
+use Rattle.cycle_journal.specs.Journal.{play_numbered}
 use Rattle.plc_console.specs.OneThread.{One, Run}
 
 -- the entries, one after another from a store up to another

@@ -5,8 +5,9 @@ use Rattle.std.specs.List.{AllByRecursion}
 use Rattle.std.proofs.lemmas.List.{append-nil}
 use Rattle.std.proofs.lemmas.List.Concat.{flat_map-append}
 use Rattle.plc_console.specs.declared.scenario.Scenario.{Scenario}
-use Rattle.plc_console.specs.declared.scenario.Play.{Play}
-use Rattle.plc_console.specs.Lines.{lines_of, text_of, ended}
+use Rattle.cycle_journal.specs.declared.play.Play.{Play}
+use Rattle.cycle_journal.specs.Journal.{name_of}
+use Rattle.cycle_journal.specs.Lines.{lines_of, text_of, ended}
 use Rattle.plc_console.specs.Among.{IsAmong, AreDistinct}
 use Rattle.plc_console.specs.Scenario.{IsPlain, IsSourceLine, IsPlayLine, ArePlayLines, IsScenario}
 use Rattle.plc_console.specs.ScenarioReading.{IsSource, ArePlays, AreEmpty, SeesName}
@@ -167,22 +168,22 @@ AreDistinct-push (y ∷ xs) x d h =
 -- the name is that of a play's task
 abbrev pub IsTaskOf : List Play → List ℕ → Type 0
 IsTaskOf [] name = ⊥
-IsTaskOf (play ∷ plays) name = (name ≡ play.task) ⊎ IsTaskOf plays name
+IsTaskOf (play ∷ plays) name = (name ≡ (name_of play)) ⊎ IsTaskOf plays name
 
 IsTaskOf-front : (plays : List Play) (play : Play) (name : List ℕ) → IsTaskOf plays name → IsTaskOf (plays ++ play ∷ []) name
 IsTaskOf-front [] play name h = absurd h
 IsTaskOf-front (p ∷ plays) play name h = ⊎_elim (λ e. inl e) (λ m. inr (IsTaskOf-front plays play name m)) h
 
-IsTaskOf-last : (plays : List Play) (play : Play) → IsTaskOf (plays ++ play ∷ []) play.task
+IsTaskOf-last : (plays : List Play) (play : Play) → IsTaskOf (plays ++ play ∷ []) (name_of play)
 IsTaskOf-last [] play = inl refl
 IsTaskOf-last (p ∷ plays) play = inr (IsTaskOf-last plays play)
 
-task_known : (names : List (List ℕ)) (plays others : List Play) (name : List ℕ) → AllByRecursion (λ play. IsAmong names play.task) (plays ++ others) → IsTaskOf plays name → IsAmong names name
+task_known : (names : List (List ℕ)) (plays others : List Play) (name : List ℕ) → AllByRecursion (λ play. IsAmong names (name_of play)) (plays ++ others) → IsTaskOf plays name → IsAmong names name
 task_known names [] others name h t = absurd t
 task_known names (play ∷ plays) others name h t =
     ⊎_elim (λ e. subst (IsAmong names) (sym e) h.0) (λ m. task_known names plays others name h.1 m) t
 
-first_known : (names : List (List ℕ)) (plays others : List Play) (play : Play) → AllByRecursion (λ p. IsAmong names p.task) (plays ++ play ∷ others) → IsAmong names play.task
+first_known : (names : List (List ℕ)) (plays others : List Play) (play : Play) → AllByRecursion (λ p. IsAmong names (name_of p)) (plays ++ play ∷ others) → IsAmong names (name_of play)
 first_known names [] others play h = h.0
 first_known names (p ∷ plays) others play h = first_known names plays others play h.1
 
@@ -195,7 +196,7 @@ pub record PlaysRead (lines : List (List ℕ)) (plays : List Play) (names left :
   pub few-names : length names ≤ 32
   pub distinct : AreDistinct names
   pub used : AllByRecursion (IsTaskOf plays) names
-  pub named : AllByRecursion (λ play. IsAmong names play.task) plays
+  pub named : AllByRecursion (λ play. IsAmong names (name_of play)) plays
 
 pub plays_none : (lines : List (List ℕ)) → PlaysRead lines [] [] lines
 plays_none lines = record {
@@ -214,34 +215,34 @@ record OneMore (plays : List Play) (play : Play) (names : List (List ℕ)) : Typ
   few-names : length names ≤ 32
   distinct : AreDistinct names
   used : AllByRecursion (IsTaskOf (plays ++ play ∷ [])) names
-  named : AllByRecursion (λ p. IsAmong names p.task) (plays ++ play ∷ [])
+  named : AllByRecursion (λ p. IsAmong names (name_of p)) (plays ++ play ∷ [])
 
-old_name : (lines : List (List ℕ)) (plays : List Play) (names left new : List (List ℕ)) (play : Play) → PlaysRead lines plays names left → IsAmong names play.task → new ≡ names → OneMore plays play new
+old_name : (lines : List (List ℕ)) (plays : List Play) (names left new : List (List ℕ)) (play : Play) → PlaysRead lines plays names left → IsAmong names (name_of play) → new ≡ names → OneMore plays play new
 old_name lines plays names left new play r m e =
     subst (OneMore plays play) (sym e) (record {
       few-names = r.few-names;
       distinct = r.distinct;
       used = AllByRecursion-weaker (IsTaskOf plays) (IsTaskOf (plays ++ play ∷ [])) (IsTaskOf-front plays play) names r.used;
-      named = AllByRecursion-push (λ (p : Play). IsAmong names p.task) plays play r.named m;
+      named = AllByRecursion-push (λ (p : Play). IsAmong names (name_of p)) plays play r.named m;
     })
 
-new_name : (lines : List (List ℕ)) (plays : List Play) (names left new : List (List ℕ)) (play : Play) → PlaysRead lines plays names left → (IsAmong names play.task → ⊥) → length names < 32 → new ≡ names ++ play.task ∷ [] → OneMore plays play new
+new_name : (lines : List (List ℕ)) (plays : List Play) (names left new : List (List ℕ)) (play : Play) → PlaysRead lines plays names left → (IsAmong names (name_of play) → ⊥) → length names < 32 → new ≡ names ++ (name_of play) ∷ [] → OneMore plays play new
 new_name lines plays names left new play r m few e =
     let front = AllByRecursion-weaker (IsTaskOf plays) (IsTaskOf (plays ++ play ∷ [])) (IsTaskOf-front plays play) names r.used in
-    let named = AllByRecursion-weaker (λ (p : Play). IsAmong names p.task) (λ (p : Play). IsAmong (names ++ play.task ∷ []) p.task) (λ p. IsAmong-front names play.task p.task) plays r.named in
+    let named = AllByRecursion-weaker (λ (p : Play). IsAmong names (name_of p)) (λ (p : Play). IsAmong (names ++ (name_of play) ∷ []) (name_of p)) (λ p. IsAmong-front names (name_of play) (name_of p)) plays r.named in
     subst (OneMore plays play) (sym e) (record {
-      few-names = omega (arith, length-append names (play.task ∷ []));
-      distinct = AreDistinct-push names play.task r.distinct m;
-      used = AllByRecursion-push (IsTaskOf (plays ++ play ∷ [])) names play.task front (IsTaskOf-last plays play);
-      named = AllByRecursion-push (λ (p : Play). IsAmong (names ++ play.task ∷ []) p.task) plays play named (IsAmong-last names play.task);
+      few-names = omega (arith, length-append names ((name_of play) ∷ []));
+      distinct = AreDistinct-push names (name_of play) r.distinct m;
+      used = AllByRecursion-push (IsTaskOf (plays ++ play ∷ [])) names (name_of play) front (IsTaskOf-last plays play);
+      named = AllByRecursion-push (λ (p : Play). IsAmong (names ++ (name_of play) ∷ []) (name_of p)) plays play named (IsAmong-last names (name_of play));
     })
 
-one_more : (lines : List (List ℕ)) (plays : List Play) (names left new : List (List ℕ)) (play : Play) → PlaysRead lines plays names left → SeesName names play.task new → OneMore plays play new
+one_more : (lines : List (List ℕ)) (plays : List Play) (names left new : List (List ℕ)) (play : Play) → PlaysRead lines plays names left → SeesName names (name_of play) new → OneMore plays play new
 one_more lines plays names left new play r s =
     ⊎_elim (λ old. old_name lines plays names left new play r old.0 old.1) (λ fresh. new_name lines plays names left new play r fresh.0 fresh.1 fresh.2) s.change
 
 pub plays_more : (lines : List (List ℕ)) (plays : List Play) (names left new : List (List ℕ)) (line : List ℕ) (play : Play) → PlaysRead lines plays names (line ∷ left) → IsPlayLine line play
-    → SeesName names play.task new → length plays < 65536 → PlaysRead lines (plays ++ play ∷ []) new left
+    → SeesName names (name_of play) new → length plays < 65536 → PlaysRead lines (plays ++ play ∷ []) new left
 plays_more lines plays names left new line play r p s few =
     let m = one_more lines plays names (line ∷ left) new play r s in
     record {
@@ -313,14 +314,14 @@ plays_refused lines plays all names line left after r differs many i =
     omega (arith, i.few-plays, ap length n.all-are, length-append plays (n.play ∷ n.others))
 
 pub name_refused : (lines : List (List ℕ)) (plays all : List Play) (names : List (List ℕ)) (line : List ℕ) (left after : List (List ℕ)) (play : Play) → PlaysRead lines plays names (line ∷ left) → line ≢ codes "@end"
-    → IsPlayLine line play → (IsAmong names play.task → ⊥) → 32 ≤ length names → ArePlays lines all after → ⊥
+    → IsPlayLine line play → (IsAmong names (name_of play) → ⊥) → 32 ≤ length names → ArePlays lines all after → ⊥
 name_refused lines plays all names line left after play r differs p fresh many i =
     let n = next_play lines plays all names line left after r differs i in
     let same = same_play line n.play play n.line-is p in
-    let tasks = subst (AllByRecursion (λ (q : Play). IsAmong i.names q.task)) n.all-are i.named in
-    let first = subst (λ (q : Play). IsAmong i.names q.task) same (first_known i.names plays n.others n.play tasks) in
+    let tasks = subst (AllByRecursion (λ (q : Play). IsAmong i.names (name_of q))) n.all-are i.named in
+    let first = subst (λ (q : Play). IsAmong i.names (name_of q)) same (first_known i.names plays n.others n.play tasks) in
     let known = AllByRecursion-weaker (IsTaskOf plays) (IsAmong i.names) (λ name t. task_known i.names plays (n.play ∷ n.others) name tasks t) names r.used in
-    let fits = distinct_fit (play.task ∷ names) i.names (fresh, r.distinct) (first, known) in
+    let fits = distinct_fit ((name_of play) ∷ names) i.names (fresh, r.distinct) (first, known) in
     omega (arith, fits, i.few-names)
 
 pub ArePlays-same : (lines : List (List ℕ)) (ps qs : List Play) (after later : List (List ℕ)) → ArePlays lines ps after → ArePlays lines qs later → (ps ≡ qs) × (after ≡ later)

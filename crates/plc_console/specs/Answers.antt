@@ -1,15 +1,16 @@
 -- What the program answers to the bytes that it reads.
 use Rattle.std.specs.Prelude.{◌≡◌, ℕ, ◌<◌, ◌≤◌, List, length, codes}
 use Rattle.plc_console.specs.declared.scenario.Scenario.{Scenario}
-use Rattle.plc_console.specs.declared.journal.Entry.{Entry}
+use Rattle.cycle_journal.specs.declared.entry.Entry.{Entry}
 use Rattle.plc_console.specs.declared.program.Program.{Program}
 use Rattle.plc_console.specs.declared.plc.Status.{Status}
 use Rattle.plc_console.specs.declared.plc.Status.TheVariants.{Done, Refused, Usage, Script, ReadFault, WriteFault, NoMemory, TooLong}
-use Rattle.plc_console.specs.Lines.{ended}
+use Rattle.cycle_journal.specs.Lines.{ended}
 use Rattle.plc_console.specs.Scenario.{IsScenario}
 use Rattle.plc_console.specs.Accepted.{Accepted}
-use Rattle.plc_console.specs.Journal.{journal_text}
-use Rattle.plc_console.specs.OneThread.{OneThread, InOrder}
+use Rattle.cycle_journal.specs.Journal.{journal_text}
+use Rattle.plc_console.specs.OneThread.{OneThread}
+use Rattle.cycle_journal.specs.Interleaving.{InOrder}
 
 -- no program is that of the text
 abbrev pub IsRefused : List ℕ → Type 0
@@ -18,7 +19,7 @@ IsRefused text = (p : Program) → Accepted text p → ⊥
 -- The status and the text for a scenario: the line of the refusal, or the journal of a run on one thread, in the order
 -- of the plays.
 abbrev pub AnswersScenario : Scenario → Status → List ℕ → Type 0
-AnswersScenario s Done text = (j : List Entry) × OneThread s j × InOrder s j × (text ≡ journal_text s.plays j)
+AnswersScenario s Done text = (j : List Entry) × OneThread s j × InOrder s.plays j × (text ≡ journal_text s.plays j)
 AnswersScenario s Refused text = IsRefused s.program × (text ≡ ended (codes "refused E02 - 1"))
 AnswersScenario s Script text = ⊥
 AnswersScenario s Usage text = ⊥

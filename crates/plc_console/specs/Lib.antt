@@ -1,4 +1,3 @@
-pub mod Lines
 pub mod Among
 pub mod Scenario
 pub mod ScenarioReading
@@ -6,6 +5,5 @@ pub mod Accepted
 pub mod Checking
 pub mod Meaning
 pub mod OneThread
-pub mod Journal
 pub mod Answers
 pub mod Cycling

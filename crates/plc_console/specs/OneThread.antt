@@ -1,20 +1,20 @@
 -- A journal as a run of the source's meaning on one thread.
-use Rattle.std.specs.Prelude.{◌≡◌, ◌≢◌, List, [], ◌∷◌, length, map, Some}
-use Rattle.std.specs.List.{range_with_len}
+use Rattle.std.specs.Prelude.{◌≡◌, ◌≢◌, List, [], ◌∷◌, Some}
 use Rattle.plc_console.specs.declared.scenario.Scenario.{Scenario}
-use Rattle.plc_console.specs.declared.scenario.Play.{Play}
-use Rattle.plc_console.specs.declared.journal.Entry.{Entry}
-use Rattle.plc_console.specs.declared.journal.Answer.{Answer}
-use Rattle.plc_console.specs.declared.journal.Answer.TheVariants.{Done, NoTask}
+use Rattle.cycle_journal.specs.declared.play.Play.{Play}
+use Rattle.cycle_journal.specs.declared.entry.Entry.{Entry}
+use Rattle.cycle_journal.specs.declared.entry.Answer.{Answer}
+use Rattle.cycle_journal.specs.declared.entry.Answer.TheVariants.{Done, NoTask}
 use Rattle.plc_console.specs.declared.program.Program.{Program}
 use Rattle.plc_console.specs.Accepted.{Accepted}
 use Rattle.plc_console.specs.Meaning.{Store, start, Cycle}
-use Rattle.plc_console.specs.Journal.{play_numbered}
+use Rattle.cycle_journal.specs.Journal.{play_numbered, name_of}
 
--- From this store the program may give this answer to the play, and go on with the next store.
+-- From this store the program may give this answer to the play, which is a cycle, and go on with the next store.
 abbrev pub One : Program → Store → Play → Answer → Store → Type 0
-One p store play (Done ticks outputs) next = (play.task ≡ p.task) × Cycle p store ticks outputs next
-One p store play (NoTask since) next = (play.task ≢ p.task) × (since ≡ 0) × (next ≡ store)
+One p store play (Done ticks outputs) next = (name_of play ≡ p.task) × Cycle p store ticks outputs next
+One p store play (NoTask since) next = (name_of play ≢ p.task) × (since ≡ 0) × (next ≡ store)
+One p store play _ next = ⊥
 
 -- the entries, one after another from this store
 abbrev pub Run : Program → List Play → Store → List Entry → Type 0
@@ -28,7 +28,3 @@ pub record OneThread (scenario : Scenario) (entries : List Entry) : Type 0 where
   pub program : Program
   pub accepted : Accepted scenario.program program
   pub run : Run program scenario.plays (start program) entries
-
--- the plays come in order, each once: 1, 2, 3 up to the last
-abbrev pub InOrder : Scenario → List Entry → Type 0
-InOrder scenario entries = map (λ e. e.play) entries ≡ range_with_len 1 (length scenario.plays)

@@ -3,9 +3,11 @@ use Rattle.std.specs.Prelude.{◌≡◌, ◌≢◌, ℕ, ◌<◌, ◌≤◌, ◌
 use Rattle.std.specs.List.{AllByRecursion}
 use Rattle.plc_text.specs.Text.{folded}
 use Rattle.plc_console.specs.declared.scenario.Scenario.{Scenario}
-use Rattle.plc_console.specs.declared.scenario.Play.{Play}
+use Rattle.cycle_journal.specs.declared.play.Play.{Play}
+use Rattle.cycle_journal.specs.declared.play.Play.TheVariants.{Cycle}
+use Rattle.cycle_journal.specs.Journal.{name_of}
 use Rattle.st_reader.specs.Words.{is_word, is_number, number}
-use Rattle.plc_console.specs.Lines.{lines_of, text_of}
+use Rattle.cycle_journal.specs.Lines.{lines_of, text_of}
 use Rattle.plc_console.specs.Among.{IsAmong}
 
 -- ASCII without CR
@@ -17,11 +19,12 @@ abbrev pub IsSourceLine : List ℕ → Type 0
 IsSourceLine [] = Unit {0}
 IsSourceLine (b ∷ line) = b ≢ 64
 
--- The line is `cycle TASK NOW -`. Letter case of the task's name does not count, nor do leading zeros of the moment.
+-- The line is `cycle TASK NOW -`, of a cycle with no input bytes. Letter case of the task's name does not count, nor do
+-- leading zeros of the moment.
 abbrev pub IsPlayLine : List ℕ → Play → Type 0
 IsPlayLine line play = (name digits : List ℕ) × (line ≡ codes "cycle " ++ name ++ codes " " ++ digits ++ codes " -")
     × (is_word name ≡ true) × (is_number digits ≡ true) × (number digits < 2 ^ 32)
-    × (play.task ≡ folded name) × (play.now ≡ number digits)
+    × (play ≡ Cycle (folded name) (number digits) [])
 
 abbrev pub ArePlayLines : List (List ℕ) → List Play → Type 0
 ArePlayLines [] [] = Unit {0}
@@ -44,4 +47,4 @@ pub record IsScenario (bytes : List ℕ) (scenario : Scenario) : Type 0 where
   pub few-plays : length scenario.plays ≤ 65536
   pub names : List (List ℕ)
   pub few-names : length names ≤ 32
-  pub named : AllByRecursion (λ play. IsAmong names play.task) scenario.plays
+  pub named : AllByRecursion (λ play. IsAmong names (name_of play)) scenario.plays

@@ -1,8 +1,9 @@
 -- The parts of a scenario, each as what its lines leave behind it.
 use Rattle.std.specs.Prelude.{◌≡◌, ◌≢◌, ◌⊎◌, ℕ, ◌<◌, ◌≤◌, List, [], ◌∷◌, ◌++◌, length, codes, replicate}
 use Rattle.std.specs.List.{AllByRecursion}
-use Rattle.plc_console.specs.declared.scenario.Play.{Play}
-use Rattle.plc_console.specs.Lines.{text_of}
+use Rattle.cycle_journal.specs.declared.play.Play.{Play}
+use Rattle.cycle_journal.specs.Journal.{name_of}
+use Rattle.cycle_journal.specs.Lines.{text_of}
 use Rattle.plc_console.specs.Scenario.{IsSourceLine, ArePlayLines}
 use Rattle.plc_console.specs.Among.{IsAmong}
 
@@ -21,7 +22,7 @@ pub record ArePlays (lines : List (List ℕ)) (plays : List Play) (after : List 
   pub few-plays : length plays ≤ 65536
   pub names : List (List ℕ)
   pub few-names : length names ≤ 32
-  pub named : AllByRecursion (λ play. IsAmong names play.task) plays
+  pub named : AllByRecursion (λ play. IsAmong names (name_of play)) plays
 
 -- each line is empty
 abbrev pub AreEmpty : List (List ℕ) → Type 0

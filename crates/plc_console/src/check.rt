@@ -93,7 +93,6 @@ fn is_standard_block(name: &str) -> bool
 
 /// The number that the digits stand for, if it is below the limit.
 fn number_below(digits: &str, limit: u32) -> Option<u32>
-    requires { limit < 2 ^ 32 }
     ensures { SomeIff result (number digits.now < limit) (number digits.now) }
 {
     let mut number = 0u32;

@@ -1,12 +1,11 @@
 ghost use Rattle.std.specs.Prelude.{◌≡◌, ◌≤◌, length, map, IfOk};
-ghost use Rattle.std.specs.List.{range_with_len};
+ghost use Rattle.cycle_journal.specs.Interleaving.{InOrder};
 ghost use Rattle.plc_console.specs.Meaning.{apply, item_value, value, tree_of, effect, effects, start, reach, end_of};
 ghost use Rattle.plc_console.specs.Cycling.{places_of, noted, value_at, bytes_at};
 ghost use Rattle.plc_console.specs.OneThread.{One, Run};
 
-use crate::journal::{Answer, Entry};
 use crate::program::{Cell, Program};
-use crate::scenario::Play;
+use cycle_journal::{Answer, Entry, Outputs, Play};
 use plc_text::{Items, NoMemory};
 use st_reader::unit::{Item, Operator, Statement, Sum};
 use std::alloc::Global;
@@ -21,8 +20,9 @@ const VERSION: u32 = 1;
 pub fn run(alloc: Global, program: &Program, plays: &[Play]) -> Result<Items<Entry>, NoMemory>
     requires plays { length plays.now ≤ 65536 }
     requires statements { length program.now.statements ≤ 1000 }
+    requires outputs { reach program.now.variables ≤ 64 }
     ensures run { IfOk result (λ entries. Run program.now plays.now (start program.now) entries) }
-    ensures in_order { IfOk result (λ entries. map (λ e. e.play) entries ≡ range_with_len 1 (length plays.now)) }
+    ensures in_order { IfOk result (InOrder plays.now) }
 {
     let variables = program.variables.as_slice();
     let places = places(alloc, variables)?;
@@ -50,10 +50,11 @@ fn answer(
     requires places { places.now ≡ places_of program.now.variables }
     requires values { length store.old ≡ length program.now.variables }
     requires statements { length program.now.statements ≤ 1000 }
+    requires outputs { length places.now ≤ 64 }
     ensures answer { IfOk result (λ answer. One program.now store.old play.entry.now answer store.new) }
     ensures values { length store.new ≡ length store.old }
 {
-    if play.task != program.task {
+    if play.name() != program.task.as_str() {
         return Ok(Answer::NoTask(0));
     }
     let statements = program.statements.as_slice();
@@ -123,14 +124,15 @@ fn note(places: &mut Items<Option<usize>>, number: usize, address: Option<u32>)
 }
 
 /// The output bytes, low byte first.
-fn outputs(alloc: Global, places: &[Option<usize>], store: &[i32]) -> Result<Items<u8>, NoMemory>
+fn outputs(alloc: Global, places: &[Option<usize>], store: &[i32]) -> Result<Outputs, NoMemory>
+    requires { length places.now ≤ 64 }
     ensures { IfOk result (λ bytes. bytes ≡ bytes_at places.now store.now) }
 {
     let mut bytes = Vec::new(alloc);
     for place in places {
         bytes.extend_from_slice(&value_at(store, *place).to_le_bytes())?;
     }
-    Ok(Items::from_vec(bytes))
+    Ok(Outputs::from_slice(bytes.as_slice()))
 }
 
 /// The value of the variable of this number, or 0 for none.

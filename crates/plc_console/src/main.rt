@@ -4,7 +4,6 @@
 mod check;
 mod cycle;
 mod gate;
-mod journal;
 mod plc;
 mod program;
 mod scenario;

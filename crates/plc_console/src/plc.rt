@@ -11,9 +11,9 @@ ghost use Rattle.plc_console.specs.Answers.{Answers, AnswersScenario, OnAnswer, 
 use crate::check::check;
 use crate::cycle::run;
 use crate::gate::Gate;
-use crate::journal::journal_text;
 use crate::program::Program;
 use crate::scenario::{Scenario, ScenarioError, read_scenario};
+use cycle_journal::journal_text;
 use plc_io::{ReadError, Sink, Source, read_all, write_all};
 use plc_text::{NoMemory, Text};
 use st_reader::parse;

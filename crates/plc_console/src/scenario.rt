@@ -1,18 +1,18 @@
 ghost use Rattle.std.specs.Prelude.{◌≡◌, ◌↔◌, ℕ, ◌<◌, ◌≤◌, ◌^◌, true, List, [], ◌∷◌, length, IsTrue, IfOk, OnOk, IsErrOf, MatchOption, SomeIff};
 ghost use Rattle.std.specs.List.{AllByRecursion};
 ghost use Rattle.plc_console.specs.declared.scenario.Scenario.{Scenario};
-ghost use Rattle.plc_console.specs.declared.scenario.Play.{Play};
+ghost use Rattle.cycle_journal.specs.declared.play.Play.{Play};
 ghost use Rattle.st_reader.specs.Words as words;
-ghost use Rattle.plc_console.specs.Lines.{lines_of};
+ghost use Rattle.cycle_journal.specs.Lines.{lines_of};
 ghost use Rattle.plc_console.specs.Among.{IsAmong};
 ghost use Rattle.plc_console.specs.Scenario.{IsPlain, IsPlayLine, IsScenario};
 ghost use Rattle.plc_console.specs.ScenarioReading.{IsSource, ArePlays, AreEmpty, HasParts, SeesName};
 ghost use Rattle.plc_console.specs.declared.scenario.ScenarioError.TheVariants as errors;
 
+use cycle_journal::{Lines, Play};
 use plc_text::{Items, NoMemory, Text};
 use st_reader::words::{is_number, is_word};
 use std::alloc::{AllocError, Global};
-use std::marker::Model;
 use std::str;
 
 /// How many plays a scenario may have.
@@ -26,16 +26,8 @@ const NAME_LIMIT: usize = 32;
 pub struct Scenario {
     /// The source text: its lines, each followed by LF.
     pub program: Text,
+    /// Cycles, with no input bytes.
     pub plays: Items<Play>,
-}
-
-/// One cycle of a task at a moment. Plays are numbered from 1.
-#[derive(Debug, Drop)]
-pub struct Play {
-    /// The task's name, in upper case.
-    pub task: Text,
-    /// The moment, in milliseconds.
-    pub now: u32,
 }
 
 /// Why no scenario was read.
@@ -62,52 +54,13 @@ impl From<AllocError> for ScenarioError {
     }
 }
 
-/// The lines of a text that are still to be read.
-#[derive(Drop)]
-struct Lines<'a> {
-    rest: &'a str,
-}
-
-impl<'a> Model for Lines<'a> {
-    ghost use Rattle.std.specs.Prelude.{List, ℕ};
-    ghost use Rattle.plc_console.specs.Lines.{lines_of};
-
-    ghost Value = { List (List ℕ) };
-
-    ghost view = { λ lines. lines_of lines.rest.now };
-}
-
-impl<'a> Lines<'a> {
-    fn next_line(&mut self) -> Option<&'a str>
-        ensures { MatchOption result ((self.old ≡ []) × (self.new ≡ [])) (λ line. self.old ≡ line.now ∷ self.new) }
-    {
-        if self.rest.is_empty() {
-            return None;
-        }
-        let (line, rest) = first_line(self.rest);
-        self.rest = rest;
-        Some(line)
-    }
-}
-
-/// The first line of a text and what follows its end.
-fn first_line(text: &str) -> (&str, &str)
-    requires { 0 < length text.now }
-    ensures { lines_of text.now ≡ result.0.now ∷ lines_of result.1.now }
-{
-    match text.split_once('\n') {
-        Some(parts) => parts,
-        None => (text, ""),
-    }
-}
-
 /// The scenario that the bytes are.
 pub fn read_scenario(alloc: Global, bytes: &[u8]) -> Result<Scenario, ScenarioError>
     ensures ok { IfOk result (λ s. IsScenario bytes.now s) }
     ensures bad { IsErrOf result ScenarioError.Bad → (s : Scenario) → IsScenario bytes.now s → ⊥ }
 {
     let text = plain_text(bytes).ok_or(ScenarioError::Bad)?;
-    let mut lines = Lines { rest: text };
+    let mut lines = Lines::new(text);
     expect_line(&mut lines, "@program")?;
     let program = read_source(alloc, &mut lines)?;
     let plays = read_plays(alloc, &mut lines)?;
@@ -192,7 +145,7 @@ fn read_plays(alloc: Global, lines: &mut Lines<'_>) -> Result<Items<Play>, Scena
             return Ok(plays);
         }
         let play = read_play(alloc, line)?;
-        see_name(alloc, &mut names, play.task.as_str())?;
+        see_name(alloc, &mut names, play.name())?;
         if plays.len() >= PLAY_LIMIT {
             return Err(ScenarioError::Bad);
         }
@@ -216,7 +169,8 @@ fn read_play(alloc: Global, line: &str) -> Result<Play, ScenarioError>
         return Err(ScenarioError::Bad);
     };
     let task = Text::folded(alloc, name)?;
-    Ok(Play { task, now })
+    let input = Items::new(alloc);
+    Ok(Play::Cycle { task, now, input })
 }
 
 /// The name and the digits of a line `cycle NAME DIGITS -`.
@@ -266,6 +220,13 @@ mod tests {
     use super::*;
     use std::test::Fail;
 
+    fn moment_of(play: &Play) -> Option<u32> {
+        match play {
+            Play::Cycle { now, .. } => Some(*now),
+            _ => None,
+        }
+    }
+
     #[test]
     fn reads_the_source_and_the_plays(rt: HostRuntime) -> Result<(), Fail> {
         let text =
@@ -274,10 +235,10 @@ mod tests {
         assert_eq!(rt; scenario.program.as_str(), "PROGRAM p\n\n  x := 1;\n");
         let plays = scenario.plays.as_slice();
         assert_eq!(rt; plays.len(), 2);
-        assert_eq!(rt; plays[0].task.as_str(), "MAIN_1");
-        assert_eq!(rt; plays[0].now, 7);
-        assert_eq!(rt; plays[1].task.as_str(), "_");
-        assert_eq!(rt; plays[1].now, 4_294_967_295);
+        assert_eq!(rt; plays[0].name(), "MAIN_1");
+        assert_eq!(rt; moment_of(&plays[0]), Some(7));
+        assert_eq!(rt; plays[1].name(), "_");
+        assert_eq!(rt; moment_of(&plays[1]), Some(4_294_967_295));
         Ok(())
     }
 

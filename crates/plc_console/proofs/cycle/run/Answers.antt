@@ -1,7 +1,14 @@
-use Rattle.std.proofs.Common.{◌∙◌, refl}
+use Rattle.std.proofs.Common.{◌≡◌, ◌∙◌, refl, rules}
 use Rattle.plc_console.specs.Meaning.{start}
+use Rattle.plc_console.specs.Cycling.{places_of}
+use Rattle.plc_console.proofs.CycleLaws.{places_few}
 use Rattle.plc_console.proofs.RunLaws.{run_of, run_more, play_numbered_next, numbers_more}
 use Rattle.plc_console.proofs.cycle.run.Goals as goal
+
+pub answer-requires-clause-outputs : goal.answer-requires-clause-outputs
+answer-requires-clause-outputs c =
+    let table : c.as_slice.result.now ≡ places_of c.args.program.now.variables = search rules in
+    places_few c.args.program.now.variables c.as_slice.result.now table c.requires.outputs
 
 pub loop-index-preserved : goal.loop-index-preserved
 loop-index-preserved c = record {
