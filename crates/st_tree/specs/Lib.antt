@@ -1,0 +1,5 @@
+pub mod Plain
+pub mod ExpressionView
+pub mod SpecView
+pub mod InitialView
+pub mod StatementView

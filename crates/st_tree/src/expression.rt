@@ -1,0 +1,113 @@
+use crate::name::Name;
+use plc_text::{Items, Text};
+use st_types::{Boxed, Elem};
+
+/// An operator between two operands, the loosest first (IEC 61131-3:2013, table 71).
+#[derive(Clone, Copy, Debug, PartialEq, Eq)]
+pub enum Operator {
+    Or,
+    OrElse,
+    Xor,
+    And,
+    AndThen,
+    Equal,
+    Differs,
+    Less,
+    Greater,
+    AtMost,
+    AtLeast,
+    Plus,
+    Minus,
+    Times,
+    Divide,
+    Modulo,
+}
+
+/// What stands behind a kind and `#`.
+#[derive(Debug, Drop, PartialEq, Eq)]
+pub enum Literal {
+    /// The digits, as they stand in the text.
+    Int(Text),
+    /// `-` and digits.
+    Negative(Text),
+    True,
+    False,
+}
+
+/// What a place begins with.
+#[derive(Debug, Drop)]
+pub enum Root<A> {
+    Name(A, Text),
+    This(A),
+    Super(A),
+}
+
+/// One step from a place to a part of it.
+#[cycle(expression)]
+#[derive(Drop)]
+pub enum Selector<A> {
+    /// `.name`
+    Field(A, Name),
+    /// `[index, ..]`
+    Index(A, Items<Expr<A>>),
+    /// `^`
+    Target(A),
+}
+
+/// A variable or a part of one.
+#[cycle(expression)]
+#[derive(Drop)]
+pub struct Place<A> {
+    pub root: Root<A>,
+    pub selectors: Items<Selector<A>>,
+}
+
+/// An operator and its right operand.
+#[cycle(expression)]
+#[derive(Drop)]
+pub struct Tail<A> {
+    /// The note of the operation on all that stands before, and this operand.
+    pub note: A,
+    pub operator: Operator,
+    pub operand: Expr<A>,
+}
+
+/// An argument of a call.
+#[cycle(expression)]
+#[derive(Drop)]
+pub enum Argument<A> {
+    Positional(Expr<A>),
+    /// `name := value`
+    Input(Name, Expr<A>),
+    /// `name => place`
+    Output(Name, A, Place<A>),
+}
+
+/// An expression with a note at each node: its line, or what is found out about it.
+#[cycle(expression)]
+#[derive(Drop)]
+pub enum Expr<A> {
+    /// The digits, as they stand in the text.
+    Int(A, Text),
+    /// `INT#5`, `BOOL#TRUE`
+    Typed(A, Elem, Literal),
+    /// `T#5s`, as it stands in the text.
+    Time(A, Text),
+    True(A),
+    False(A),
+    Null(A),
+    Place(A, Place<A>),
+    Call(A, Place<A>, Items<Argument<A>>),
+    /// `Type#Name`
+    Enumerator(A, Name, Name),
+    /// `REF(place)`
+    Ref(A, Place<A>),
+    /// `TIME()`
+    Now(A),
+    Paren(A, Boxed<Expr<A>>),
+    Not(A, Boxed<Expr<A>>),
+    Negate(A, Boxed<Expr<A>>),
+    /// Operands with operators of one level between them, which group to the left. Lists keep the depth of a tree
+    /// within the nesting of the text.
+    Chain(A, Boxed<Expr<A>>, Items<Tail<A>>),
+}
