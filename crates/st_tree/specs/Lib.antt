@@ -3,3 +3,6 @@ pub mod ExpressionView
 pub mod SpecView
 pub mod InitialView
 pub mod StatementView
+pub mod Terminals
+pub mod Grammar
+pub mod Declarations

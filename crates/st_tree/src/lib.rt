@@ -1,14 +1,32 @@
-//! The tree of a program text: a node for each rule of the grammar (IEC 61131-3:2013, annex A).
+//! The tree of a program text: a node for each rule of the grammar (IEC 61131-3:2013, annex A). Each node has a note: its
+//! line in the text as it is written, or what is found out about it in a checked program.
 #![tactic(auto)]
 
+mod configuration;
+mod declaration;
 mod expression;
 mod initial;
+mod marks;
 mod name;
+mod program;
 mod statement;
+mod terminal;
 mod type_spec;
+mod unit;
 
+pub use configuration::{
+    Configuration, InstanceSpec, Resource, Setting, SettingValue, TaskSpec,
+};
+pub use declaration::{
+    ClassDecl, ClassSort, FieldGroup, FunctionDecl, InterfaceDecl, Item, Member, Method, Modifier,
+    ProgramDecl, Prototype, Section, SectionSort, TypeBody, TypeDecl,
+};
 pub use expression::{Argument, Expr, Literal, Operator, Place, Root, Selector, Tail};
 pub use initial::{FieldInit, Init, Part};
+pub use marks::Marks;
 pub use name::Name;
+pub use program::{Note, Path, Program, RegionDecl, Step, Target, TaskDecl};
 pub use statement::{Branch, Case, Label, LabelEnd, Otherwise, Stmt};
+pub use terminal::Terminal;
 pub use type_spec::{Bounds, TypeSpec};
+pub use unit::{Decl, Unit};
