@@ -2,7 +2,7 @@
 -- any white space around and between their words, and some before NAME.
 use Rattle.std.specs.Prelude.{ℕ, Bool, ◌-◌, ◌&&◌, ◌||◌, List, length, take, drop, codes}
 use Rattle.std.specs.List.{list_all, take_while}
-use Rattle.st_tree.specs.Words.{spells, begins, behind_all, is_blank, is_word_character, is_name}
+use Rattle.st_tree.specs.Words.{opens, begins, behind_all, is_blank, is_word_character, is_name}
 
 -- what stands between the braces
 abbrev pub inside : List ℕ → List ℕ
@@ -12,16 +12,16 @@ abbrev pub behind_blanks : List ℕ → List ℕ
 behind_blanks text = behind_all is_blank text
 
 -- `attribute`, then this text in quotes
-abbrev pub is_attribute : List ℕ → List ℕ → Bool
+unfoldable pub is_attribute : List ℕ → List ℕ → Bool
 is_attribute quoted pragma =
     let text = behind_blanks (inside pragma) in
     let value = behind_blanks (drop 9 text) in
-    spells (codes "ATTRIBUTE") (take 9 text) && (spells quoted (take (length quoted) value) && list_all is_blank (drop (length quoted) value))
+    opens (codes "ATTRIBUTE") text && (opens quoted value && list_all is_blank (drop (length quoted) value))
 
-abbrev pub is_no_copy : List ℕ → Bool
+unfoldable pub is_no_copy : List ℕ → Bool
 is_no_copy pragma = is_attribute (codes "'NO_COPY'") pragma
 
-abbrev pub is_init_on_change : List ℕ → Bool
+unfoldable pub is_init_on_change : List ℕ → Bool
 is_init_on_change pragma = is_attribute (codes "'INIT_ON_ONLCHANGE'") pragma
 
 -- what stands behind `renamed_from`, from its white space on
@@ -32,11 +32,11 @@ behind_renamed pragma = drop 12 (behind_blanks (inside pragma))
 abbrev pub old_name : List ℕ → List ℕ
 old_name pragma = take_while is_word_character (behind_blanks (behind_renamed pragma))
 
-abbrev pub is_renamed : List ℕ → Bool
+unfoldable pub is_renamed : List ℕ → Bool
 is_renamed pragma =
-    spells (codes "RENAMED_FROM") (take 12 (behind_blanks (inside pragma)))
+    opens (codes "RENAMED_FROM") (behind_blanks (inside pragma))
     && (begins is_blank (behind_renamed pragma)
     && (is_name (old_name pragma) && list_all is_blank (behind_all is_word_character (behind_blanks (behind_renamed pragma)))))
 
-abbrev pub is_mark : List ℕ → Bool
+unfoldable pub is_mark : List ℕ → Bool
 is_mark pragma = is_no_copy pragma || (is_init_on_change pragma || is_renamed pragma)

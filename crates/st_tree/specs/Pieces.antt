@@ -1,7 +1,7 @@
 -- The pieces that a text is made of: white space, comments, pragmas and the other tokens (IEC 61131-3:2013, 6.1 to 6.3).
-use Rattle.std.specs.Prelude.{ℕ, Bool, true, false, ◌&&◌, ◌||◌, not, nat_eq, List, [], ◌∷◌, ◌++◌, length, take, drop, codes, if◌then◌else◌}
+use Rattle.std.specs.Prelude.{ℕ, Bool, true, false, ◌&&◌, ◌||◌, not, nat_eq, List, [], ◌∷◌, ◌++◌, length, drop, codes, if◌then◌else◌}
 use Rattle.std.specs.List.{list_all, list_any, before_first, after_first}
-use Rattle.st_tree.specs.Words.{same, spells, begins, behind_all, is_blank, is_digit, is_binary_digit, is_octal_digit, is_hexadecimal_digit, is_word_character, is_word, is_number}
+use Rattle.st_tree.specs.Words.{same, spells, opens, begins, behind_all, is_blank, is_digit, is_binary_digit, is_octal_digit, is_hexadecimal_digit, is_word_character, is_word, is_number}
 
 -- one character of white space
 abbrev pub is_white_space : List ℕ → Bool
@@ -11,21 +11,21 @@ is_white_space cs = false
 -- the text ends with the mark, which stands nowhere before
 abbrev pub ends_first : List ℕ → List ℕ → Bool
 ends_first mark [] = false
-ends_first mark (c ∷ cs) = if same (take (length mark) (c ∷ cs)) mark then same (c ∷ cs) mark else ends_first mark cs
+ends_first mark (c ∷ cs) = if opens mark (c ∷ cs) then spells mark (c ∷ cs) else ends_first mark cs
 
 abbrev pub is_no_line_feed : ℕ → Bool
 is_no_line_feed c = not (nat_eq c 10)
 
 -- `(*` up to the first `*)` behind it, `/*` up to the first `*/` behind it, or `//` and no line feed
-abbrev pub is_comment : List ℕ → Bool
+unfoldable pub is_comment : List ℕ → Bool
 is_comment text =
-    same (take 2 text) (codes "(*") && ends_first (codes "*)") (drop 2 text)
-    || (same (take 2 text) (codes "/*") && ends_first (codes "*/") (drop 2 text)
-    || same (take 2 text) (codes "//") && list_all is_no_line_feed (drop 2 text))
+    opens (codes "(*") text && ends_first (codes "*)") (drop 2 text)
+    || (opens (codes "/*") text && ends_first (codes "*/") (drop 2 text)
+    || opens (codes "//") text && list_all is_no_line_feed (drop 2 text))
 
 -- `{` up to the first `}`
-abbrev pub is_pragma : List ℕ → Bool
-is_pragma text = same (take 1 text) (codes "{") && ends_first (codes "}") (drop 1 text)
+unfoldable pub is_pragma : List ℕ → Bool
+is_pragma text = opens (codes "{") text && ends_first (codes "}") (drop 1 text)
 
 -- digits with single underscores between them; the flag says whether a digit stands before
 abbrev pub are_spaced : (ℕ → Bool) → Bool → List ℕ → Bool
@@ -37,16 +37,16 @@ abbrev pub are_digits : (ℕ → Bool) → List ℕ → Bool
 are_digits test text = are_spaced test false text
 
 -- decimal digits, or digits of the base that stands before them
-abbrev pub is_int : List ℕ → Bool
+unfoldable pub is_int : List ℕ → Bool
 is_int text =
     are_digits is_digit text
-    || (same (take 2 text) (codes "2#") && are_digits is_binary_digit (drop 2 text)
-    || (same (take 2 text) (codes "8#") && are_digits is_octal_digit (drop 2 text)
-    || same (take 3 text) (codes "16#") && are_digits is_hexadecimal_digit (drop 3 text)))
+    || (opens (codes "2#") text && are_digits is_binary_digit (drop 2 text)
+    || (opens (codes "8#") text && are_digits is_octal_digit (drop 2 text)
+    || opens (codes "16#") text && are_digits is_hexadecimal_digit (drop 3 text)))
 
 -- digits and this unit begin the text
 abbrev pub begins_part : List ℕ → List ℕ → Bool
-begins_part unit text = begins is_digit text && spells unit (take (length unit) (behind_all is_digit text))
+begins_part unit text = begins is_digit text && opens unit (behind_all is_digit text)
 
 abbrev pub behind_part : List ℕ → List ℕ → List ℕ
 behind_part unit text = drop (length unit) (behind_all is_digit text)
@@ -75,8 +75,8 @@ are_parts (unit ∷ units) text =
 abbrev pub units : List (List ℕ)
 units = codes "D" ∷ codes "H" ∷ codes "M" ∷ codes "S" ∷ codes "MS" ∷ []
 
-abbrev pub is_time : List ℕ → Bool
-is_time text = spells (codes "T#") (take 2 text) && are_parts units (drop 2 text) || spells (codes "TIME#") (take 5 text) && are_parts units (drop 5 text)
+unfoldable pub is_time : List ℕ → Bool
+is_time text = opens (codes "T#") text && are_parts units (drop 2 text) || opens (codes "TIME#") text && are_parts units (drop 5 text)
 
 abbrev pub is_point : ℕ → Bool
 is_point c = nat_eq c 46
@@ -88,17 +88,20 @@ is_bit_place text = is_number (before_first is_point text) && is_number (after_f
 abbrev pub is_one_of : List (List ℕ) → List ℕ → Bool
 is_one_of words text = list_any (λ word. spells word text) words
 
+abbrev pub opens_one_of : List (List ℕ) → List ℕ → Bool
+opens_one_of words text = list_any (λ word. opens word text) words
+
 -- `X`, which may be left out, and the place of a bit, or another width and a number
-abbrev pub is_location : List ℕ → Bool
+unfoldable pub is_location : List ℕ → Bool
 is_location text =
     is_bit_place text
-    || (spells (codes "X") (take 1 text) && is_bit_place (drop 1 text)
-    || is_one_of (codes "B" ∷ codes "W" ∷ codes "D" ∷ codes "L" ∷ []) (take 1 text) && is_number (drop 1 text))
+    || (opens (codes "X") text && is_bit_place (drop 1 text)
+    || opens_one_of (codes "B" ∷ codes "W" ∷ codes "D" ∷ codes "L" ∷ []) text && is_number (drop 1 text))
 
 -- `%`, `I`, `Q` or `M`, and where it lies
-abbrev pub is_address : List ℕ → Bool
+unfoldable pub is_address : List ℕ → Bool
 is_address text =
-    is_one_of (codes "%I" ∷ codes "%Q" ∷ codes "%M" ∷ []) (take 2 text) && is_location (drop 2 text)
+    opens_one_of (codes "%I" ∷ codes "%Q" ∷ codes "%M" ∷ []) text && is_location (drop 2 text)
 
 abbrev pub symbols : List (List ℕ)
 symbols =
@@ -113,19 +116,19 @@ abbrev pub is_number_sign : ℕ → Bool
 is_number_sign c = nat_eq c 35
 
 -- a word up to its end. `T` and `TIME` before `#` begin a time or nothing
-abbrev pub is_whole_word : List ℕ → List ℕ → Bool
+unfoldable pub is_whole_word : List ℕ → List ℕ → Bool
 is_whole_word text rest =
     is_word text && (not (begins is_word_character rest)
     && not (is_one_of (codes "T" ∷ codes "TIME" ∷ []) text && begins is_number_sign rest))
 
 abbrev pub opens_comment : List ℕ → Bool
-opens_comment text = same (take 2 text) (codes "(*") || (same (take 2 text) (codes "/*") || same (take 2 text) (codes "//"))
+opens_comment text = opens (codes "(*") text || (opens (codes "/*") text || opens (codes "//") text)
 
 -- a symbol. `(*`, `/*` and `//` begin a comment or nothing
-abbrev pub is_whole_symbol : List ℕ → List ℕ → Bool
+unfoldable pub is_whole_symbol : List ℕ → List ℕ → Bool
 is_whole_symbol text rest = is_symbol text && not (opens_comment (text ++ rest))
 
 -- whether the text is a piece where this rest stands behind it
-abbrev pub is_piece : List ℕ → List ℕ → Bool
+unfoldable pub is_piece : List ℕ → List ℕ → Bool
 is_piece text rest =
     is_white_space text || (is_comment text || (is_pragma text || (is_int text || (is_time text || (is_address text || (is_whole_word text rest || is_whole_symbol text rest))))))

@@ -1,8 +1,8 @@
 -- What the text of a number, of a time and of an address stands for.
-use Rattle.std.specs.Prelude.{ℕ, ◌+◌, ◌-◌, ◌*◌, ◌==◌, List, [], ◌∷◌, take, drop, fold, codes, slice_index, if◌then◌else◌}
+use Rattle.std.specs.Prelude.{ℕ, ◌+◌, ◌-◌, ◌*◌, ◌==◌, List, [], ◌∷◌, drop, fold, codes, slice_index, if◌then◌else◌}
 use Rattle.std.specs.List.{before_first, after_first}
 use Rattle.std.specs.Char.{to_ascii_uppercase}
-use Rattle.st_tree.specs.Words.{same, spells, begins, is_digit}
+use Rattle.st_tree.specs.Words.{opens, begins, is_digit}
 use Rattle.st_tree.specs.Pieces.{is_point}
 
 -- `A` is 10
@@ -16,19 +16,19 @@ number_in base digits = fold (λ n c. if c == 95 then n else base * n + digit_of
 -- of an int
 abbrev pub number_of : List ℕ → ℕ
 number_of text =
-    if same (take 2 text) (codes "2#") then number_in 2 (drop 2 text)
-    else if same (take 2 text) (codes "8#") then number_in 8 (drop 2 text)
-    else if same (take 3 text) (codes "16#") then number_in 16 (drop 3 text)
+    if opens (codes "2#") text then number_in 2 (drop 2 text)
+    else if opens (codes "8#") text then number_in 8 (drop 2 text)
+    else if opens (codes "16#") text then number_in 16 (drop 3 text)
     else number_in 10 text
 
 -- the milliseconds of the unit at the front; what begins no unit counts nothing
 abbrev pub unit_of : List ℕ → ℕ
 unit_of text =
-    if spells (codes "MS") (take 2 text) then 1
-    else if spells (codes "S") (take 1 text) then 1000
-    else if spells (codes "M") (take 1 text) then 60_000
-    else if spells (codes "H") (take 1 text) then 3_600_000
-    else if spells (codes "D") (take 1 text) then 86_400_000
+    if opens (codes "MS") text then 1
+    else if opens (codes "S") text then 1000
+    else if opens (codes "M") text then 60_000
+    else if opens (codes "H") text then 3_600_000
+    else if opens (codes "D") text then 86_400_000
     else 0
 
 -- the sum of the parts, each its number times its unit, with the number that was read so far. The `s` of `ms` adds nothing, since
@@ -40,7 +40,7 @@ parts_sum number (c ∷ cs) =
 
 -- of a time
 abbrev pub milliseconds : List ℕ → ℕ
-milliseconds text = if spells (codes "T#") (take 2 text) then parts_sum 0 (drop 2 text) else parts_sum 0 (drop 5 text)
+milliseconds text = if opens (codes "T#") text then parts_sum 0 (drop 2 text) else parts_sum 0 (drop 5 text)
 
 -- of an address: `I`, `Q` or `M`
 abbrev pub area_of : List ℕ → ℕ

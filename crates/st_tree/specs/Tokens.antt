@@ -11,7 +11,7 @@ use Rattle.st_tree.specs.Pieces.{is_white_space, is_comment, is_pragma, is_int, 
 use Rattle.st_tree.specs.Marks.{is_mark}
 
 -- what a piece is; white space, comments and pragmas that do not count are passed over
-abbrev pub piece_kind : List ℕ → Option TokenKind
+unfoldable pub piece_kind : List ℕ → Option TokenKind
 piece_kind piece =
     if is_white_space piece || is_comment piece then None
     else if is_pragma piece then (if is_mark piece then Some Mark else None)

@@ -1,5 +1,5 @@
 -- Characters and words (IEC 61131-3:2013, 6.1). Letter case does not count.
-use Rattle.std.specs.Prelude.{ℕ, Bool, false, ◌&&◌, ◌||◌, not, nat_eq, nat_le, List, [], ◌∷◌, codes, if◌then◌else◌}
+use Rattle.std.specs.Prelude.{ℕ, Bool, false, ◌&&◌, ◌||◌, not, nat_eq, nat_le, List, [], ◌∷◌, length, take, codes, if◌then◌else◌}
 use Rattle.std.specs.List.{list_all, list_any}
 use Rattle.std.specs.Str.{bytes_eq}
 use Rattle.plc_text.specs.Text.{folded}
@@ -11,6 +11,10 @@ same text other = bytes_eq text other
 -- whether the text in upper case is the word
 abbrev pub spells : List ℕ → List ℕ → Bool
 spells word text = same (folded text) word
+
+-- whether the text begins with the word, letter case apart
+abbrev pub opens : List ℕ → List ℕ → Bool
+opens word text = spells word (take (length word) text)
 
 -- whether the text has a first character, and it passes
 abbrev pub begins : (ℕ → Bool) → List ℕ → Bool
