@@ -1,7 +1,7 @@
 -- The pieces that a text is made of: white space, comments, pragmas and the other tokens (IEC 61131-3:2013, 6.1 to 6.3).
 use Rattle.std.specs.Prelude.{ℕ, Bool, true, false, ◌&&◌, ◌||◌, not, nat_eq, List, [], ◌∷◌, ◌++◌, length, drop, codes, if◌then◌else◌}
-use Rattle.std.specs.List.{list_all, list_any, before_first, after_first}
-use Rattle.st_tree.specs.Words.{same, spells, opens, begins, behind_all, is_blank, is_digit, is_binary_digit, is_octal_digit, is_hexadecimal_digit, is_word_character, is_word, is_number}
+use Rattle.std.specs.List.{list_all, list_any}
+use Rattle.st_tree.specs.Words.{spells, is_one_of, opens, begins, behind_all, is_blank, is_digit, is_binary_digit, is_octal_digit, is_hexadecimal_digit, is_word_character, is_word, is_number}
 
 -- one character of white space
 abbrev pub is_white_space : List ℕ → Bool
@@ -81,12 +81,13 @@ is_time text = opens (codes "T#") text && are_parts units (drop 2 text) || opens
 abbrev pub is_point : ℕ → Bool
 is_point c = nat_eq c 46
 
--- digits, a point and digits
-abbrev pub is_bit_place : List ℕ → Bool
-is_bit_place text = is_number (before_first is_point text) && is_number (after_first is_point text)
+-- digits, a point and digits; the flag says whether a digit stands before
+abbrev pub are_split : Bool → List ℕ → Bool
+are_split after_digit [] = false
+are_split after_digit (c ∷ cs) = if is_digit c then are_split true cs else (is_point c && (after_digit && is_number cs))
 
-abbrev pub is_one_of : List (List ℕ) → List ℕ → Bool
-is_one_of words text = list_any (λ word. spells word text) words
+abbrev pub is_bit_place : List ℕ → Bool
+is_bit_place text = are_split false text
 
 abbrev pub opens_one_of : List (List ℕ) → List ℕ → Bool
 opens_one_of words text = list_any (λ word. opens word text) words
@@ -110,7 +111,7 @@ symbols =
     codes "-" ∷ codes "*" ∷ codes "/" ∷ codes "=" ∷ codes "<" ∷ codes ">" ∷ codes "&" ∷ []
 
 abbrev pub is_symbol : List ℕ → Bool
-is_symbol text = list_any (same text) symbols
+is_symbol text = is_one_of symbols text
 
 abbrev pub is_number_sign : ℕ → Bool
 is_number_sign c = nat_eq c 35

@@ -80,8 +80,12 @@ keywords =
     codes "VAR_GLOBAL" ∷ codes "VAR_INPUT" ∷ codes "VAR_IN_OUT" ∷ codes "VAR_OUTPUT" ∷ codes "VAR_TEMP" ∷ codes
     "WHILE" ∷ codes "WITH" ∷ codes "WORD" ∷ codes "XOR" ∷ []
 
+-- whether the text in upper case is one of the words
+abbrev pub is_one_of : List (List ℕ) → List ℕ → Bool
+is_one_of words text = list_any (λ word. spells word text) words
+
 abbrev pub is_keyword : List ℕ → Bool
-is_keyword word = list_any (λ keyword. spells keyword word) keywords
+is_keyword word = is_one_of keywords word
 
 -- a word that may name something
 abbrev pub is_name : List ℕ → Bool
