@@ -5,9 +5,9 @@ use Rattle.st_types.specs.declared.elem.Elem.TheVariants as kind
 use Rattle.st_tree.specs.declared.terminal.Terminal.{Terminal}
 use Rattle.st_tree.specs.declared.terminal.Terminal.TheVariants as x
 
--- the words that name nothing, in upper case
-unfoldable pub keywords : List (List ℕ × Terminal)
-keywords =
+-- the keywords, in upper case
+unfoldable pub keyword_terminals : List (List ℕ × Terminal)
+keyword_terminals =
     (codes "ABSTRACT", x.Abstract) ∷
     (codes "AND", x.And) ∷
     (codes "AND_THEN", x.AndThen) ∷
@@ -105,8 +105,8 @@ keywords =
     (codes "XOR", x.Xor) ∷
     []
 
-unfoldable pub symbols : List (List ℕ × Terminal)
-symbols =
+unfoldable pub symbol_terminals : List (List ℕ × Terminal)
+symbol_terminals =
     (codes ":=", x.Assign) ∷
     (codes "?=", x.Attempt) ∷
     (codes "=>", x.Sends) ∷

@@ -2,7 +2,7 @@ use crate::declaration::Section;
 use crate::name::Name;
 use plc_text::{Items, Text};
 
-/// The value of a task's setting, as it stands in the text.
+/// The value of a task's setting, in upper case.
 #[derive(Debug, Drop, PartialEq, Eq)]
 pub enum SettingValue {
     Int(Text),

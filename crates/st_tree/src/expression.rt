@@ -26,7 +26,7 @@ pub enum Operator {
 /// What stands behind a kind and `#`.
 #[derive(Debug, Drop, PartialEq, Eq)]
 pub enum Literal {
-    /// The digits, as they stand in the text.
+    /// The digits in upper case, with base and underscores.
     Int(Text),
     /// `-` and digits.
     Negative(Text),
@@ -87,11 +87,11 @@ pub enum Argument<A> {
 #[cycle(expression)]
 #[derive(Drop)]
 pub enum Expr<A> {
-    /// The digits, as they stand in the text.
+    /// The digits in upper case, with base and underscores.
     Int(A, Text),
     /// `INT#5`, `BOOL#TRUE`
     Typed(A, Elem, Literal),
-    /// `T#5s`, as it stands in the text.
+    /// `T#5S`, in upper case.
     Time(A, Text),
     True(A),
     False(A),

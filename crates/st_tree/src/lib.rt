@@ -1,5 +1,5 @@
-//! The tree of a program text: a node for each rule of the grammar (IEC 61131-3:2013, annex A). Each node has a note: its
-//! line in the text as it is written, or what is found out about it in a checked program.
+//! The tokens and the tree of a program text: a node for each rule of the grammar (IEC 61131-3:2013, 6.1 and annex A). Each
+//! node has a note: its line in the text as it is written, or what is found out about it in a checked program.
 #![tactic(auto)]
 
 mod configuration;
@@ -11,6 +11,7 @@ mod name;
 mod program;
 mod statement;
 mod terminal;
+mod token;
 mod type_spec;
 mod unit;
 
@@ -28,5 +29,6 @@ pub use name::Name;
 pub use program::{Note, Path, Program, RegionDecl, Step, Target, TaskDecl};
 pub use statement::{Branch, Case, Label, LabelEnd, Otherwise, Stmt};
 pub use terminal::Terminal;
+pub use token::{TokenKind, token_laws};
 pub use type_spec::{Bounds, TypeSpec};
 pub use unit::{Decl, Unit};

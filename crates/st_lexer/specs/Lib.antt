@@ -1,0 +1,3 @@
+pub mod Classes
+pub mod Reach
+pub mod Fronts

@@ -1,0 +1,7 @@
+//! Reads the tokens of a program's text (IEC 61131-3:2013, 6.1), in one pass and without a copy of the text.
+#![tactic(auto)]
+
+mod characters;
+mod marks;
+mod piece;
+mod reach;
