@@ -1,6 +1,9 @@
+ghost use Rattle.std.specs.Prelude.{◌≡◌, IfOk};
+
 use crate::name::Name;
-use plc_text::{Items, Text};
+use plc_text::{Items, NoMemory, Text};
 use st_types::{Boxed, Elem};
+use std::alloc::Global;
 
 /// An operator between two operands, the loosest first (IEC 61131-3:2013, table 71).
 #[derive(Clone, Copy, Debug, PartialEq, Eq)]
@@ -32,6 +35,20 @@ pub enum Literal {
     Negative(Text),
     True,
     False,
+}
+
+impl Literal {
+    /// The same literal again.
+    pub fn copy(&self, alloc: Global) -> Result<Literal, NoMemory>
+        ensures { IfOk result (λ copy. copy ≡ self.now) }
+    {
+        match self {
+            Literal::Int(digits) => Ok(Literal::Int(Text::copy(alloc, digits.as_str())?)),
+            Literal::Negative(digits) => Ok(Literal::Negative(Text::copy(alloc, digits.as_str())?)),
+            Literal::True => Ok(Literal::True),
+            Literal::False => Ok(Literal::False),
+        }
+    }
 }
 
 /// What a place begins with.

@@ -8,16 +8,17 @@ mod expression;
 mod initial;
 mod marks;
 mod name;
+mod path;
 mod program;
 mod statement;
 mod terminal;
+#[cfg(test)]
+mod tests;
 mod token;
 mod type_spec;
 mod unit;
 
-pub use configuration::{
-    Configuration, InstanceSpec, Resource, Setting, SettingValue, TaskSpec,
-};
+pub use configuration::{Configuration, InstanceSpec, Resource, Setting, SettingValue, TaskSpec};
 pub use declaration::{
     ClassDecl, ClassSort, FieldGroup, FunctionDecl, InterfaceDecl, Item, Member, Method, Modifier,
     ProgramDecl, Prototype, Section, SectionSort, TypeBody, TypeDecl,
@@ -26,9 +27,10 @@ pub use expression::{Argument, Expr, Literal, Operator, Place, Root, Selector, T
 pub use initial::{FieldInit, Init, Part};
 pub use marks::Marks;
 pub use name::Name;
-pub use program::{Note, Path, Program, RegionDecl, Step, Target, TaskDecl};
+pub use path::{Path, Step, Steps};
+pub use program::{Note, Program, RegionDecl, Target, TaskDecl};
 pub use statement::{Branch, Case, Label, LabelEnd, Otherwise, Stmt};
-pub use terminal::Terminal;
+pub use terminal::{Terminal, terminal_laws};
 pub use token::{TokenKind, token_laws};
 pub use type_spec::{Bounds, TypeSpec};
 pub use unit::{Decl, Unit};

@@ -69,19 +69,3 @@ pub struct Program {
     pub regions: Items<RegionDecl>,
     pub tasks: Items<TaskDecl>,
 }
-
-/// A step from a value to a part of it.
-#[derive(Clone, Copy, Debug, PartialEq, Eq)]
-pub enum Step {
-    /// A field, or a variable of an instance, those of its bases first.
-    Field(u32),
-    /// The element of an array at an index.
-    Element(i128),
-}
-
-/// A value in the store: its region and the way to it.
-#[derive(Drop)]
-pub struct Path {
-    pub region: u32,
-    pub steps: Items<Step>,
-}

@@ -1,3 +1,8 @@
+ghost use Rattle.std.specs.Prelude.{◌≡◌, map};
+ghost use Rattle.st_tree.specs.Words.{keywords};
+ghost use Rattle.st_tree.specs.Pieces.{symbols};
+ghost use Rattle.st_tree.specs.Terminals.{keyword_terminals, symbol_terminals};
+
 use st_types::Elem;
 
 /// What a token is to the grammar: every keyword and every symbol is one of its own.
@@ -144,3 +149,9 @@ pub enum Terminal {
     /// `&`
     Ampersand,
 }
+
+/// Every keyword and every symbol is a terminal, and no other word is one.
+pub fn terminal_laws()
+    ensures of_keywords { map (λ row. row.0) keyword_terminals ≡ keywords }
+    ensures of_symbols { map (λ row. row.0) symbol_terminals ≡ symbols }
+{}

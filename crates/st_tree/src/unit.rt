@@ -1,7 +1,5 @@
 use crate::configuration::Configuration;
-use crate::declaration::{
-    ClassDecl, FunctionDecl, InterfaceDecl, ProgramDecl, Section, TypeDecl,
-};
+use crate::declaration::{ClassDecl, FunctionDecl, InterfaceDecl, ProgramDecl, Section, TypeDecl};
 use plc_text::Items;
 
 /// What stands at the top of a program text.
