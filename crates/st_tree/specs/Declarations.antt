@@ -3,6 +3,7 @@ use Rattle.std.specs.Prelude.{◌≡◌, ℕ, Bool, true, false, ◌||◌, List,
 use Rattle.st_tree.specs.declared.terminal.Terminal.{Terminal}
 use Rattle.st_tree.specs.declared.terminal.Terminal.TheVariants as x
 use Rattle.st_tree.specs.declared.name.Name.{Name}
+use Rattle.st_tree.specs.declared.name.Used.{Used}
 use Rattle.st_tree.specs.declared.initial.Init.{Init}
 use Rattle.st_tree.specs.declared.type_spec.TypeSpec.{TypeSpec}
 use Rattle.st_tree.specs.declared.declaration.Modifier.{Modifier}
@@ -38,7 +39,7 @@ use Rattle.st_tree.specs.declared.unit.Unit.{Unit as ProgramText}
 use Rattle.st_tree.specs.SpecView.{spec_of}
 use Rattle.st_tree.specs.InitialView.{initial_of}
 use Rattle.st_tree.specs.StatementView.{statements_of}
-use Rattle.st_tree.specs.Grammar.{Lexeme, Phrase, ◌⋆◌, nothing, never, sign, spelled, name, at, marked, optional, spec, initial, body}
+use Rattle.st_tree.specs.Grammar.{Lexeme, Phrase, ◌⋆◌, nothing, never, sign, spelled, word, name, at, marked, optional, spec, initial, body}
 
 -- parts one after another, as many as there are
 abbrev pub each : {X : Type 0} → (X → Phrase) → List X → Phrase
@@ -53,6 +54,19 @@ more_names (n ∷ ns) = sign x.Comma ⋆ name n ⋆ more_names ns
 abbrev pub names : List Name → Phrase
 names [] = never
 names (n ∷ ns) = name n ⋆ more_names ns
+
+-- a name that is used
+abbrev pub used : Used ℕ → Phrase
+used u = at u.note (word u.text)
+
+abbrev pub more_used : List (Used ℕ) → Phrase
+more_used [] = nothing
+more_used (u ∷ us) = sign x.Comma ⋆ used u ⋆ more_used us
+
+-- name { "," name }
+abbrev pub used_names : List (Used ℕ) → Phrase
+used_names [] = never
+used_names (u ∷ us) = used u ⋆ more_used us
 
 -- [":=" init]
 abbrev pub start_value : Option (Init ℕ) → Phrase
@@ -166,9 +180,9 @@ abbrev pub prototype : Prototype ℕ → Phrase
 prototype m = at m.line (sign x.Method ⋆ name m.name ⋆ result m.result ⋆ optional x.Semicolon ⋆ each vars m.sections ⋆ sign x.EndMethod)
 
 -- [EXTENDS names]
-abbrev pub extended : List Name → Phrase
+abbrev pub extended : List (Used ℕ) → Phrase
 extended [] = nothing
-extended (n ∷ ns) = sign x.Extends ⋆ names (n ∷ ns)
+extended (u ∷ us) = sign x.Extends ⋆ used_names (u ∷ us)
 
 -- interface = INTERFACE name [EXTENDS names] { .. } END_INTERFACE
 abbrev pub interface : InterfaceDecl ℕ → Phrase
@@ -186,14 +200,14 @@ member (members.Section s) = vars s
 member (members.Method m) = method m
 
 -- [EXTENDS name]
-abbrev pub base : Option Name → Phrase
+abbrev pub base : Option (Used ℕ) → Phrase
 base None = nothing
-base (Some n) = sign x.Extends ⋆ name n
+base (Some u) = sign x.Extends ⋆ used u
 
 -- [IMPLEMENTS names]
-abbrev pub implemented : List Name → Phrase
+abbrev pub implemented : List (Used ℕ) → Phrase
 implemented [] = nothing
-implemented (n ∷ ns) = sign x.Implements ⋆ names (n ∷ ns)
+implemented (u ∷ us) = sign x.Implements ⋆ used_names (u ∷ us)
 
 -- head = { ABSTRACT | FINAL } name [EXTENDS name] [IMPLEMENTS names]
 abbrev pub head : ClassDecl ℕ → Phrase

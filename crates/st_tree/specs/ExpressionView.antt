@@ -1,8 +1,7 @@
 -- The plain tree of an expression of the code.
-use Rattle.std.specs.Prelude.{◌≡◌, ℕ, List, [], ◌∷◌, map, Option}
+use Rattle.std.specs.Prelude.{◌≡◌, ℕ, List, [], ◌∷◌, map}
 use Rattle.std.proofs.Common.{sym, ◌∙◌, ap}
 use Rattle.st_types.specs.declared.elem.Elem.{Elem}
-use Rattle.st_tree.specs.declared.name.Name.{Name}
 use Rattle.st_tree.specs.declared.expression.Operator.{Operator}
 use Rattle.st_tree.specs.declared.expression.Literal.{Literal}
 use Rattle.st_tree.specs.declared.expression.Root.{Root}
@@ -38,8 +37,8 @@ tails (t ∷ ts) = tail_then t.0 t.1 t.2 (tails ts)
 -- one level, with the plain trees of its parts in their places
 abbrev pub argument_level : {A : Type 0} → Argument-F A (Argument A) (Expression A) (Selector A) (Root A × Selectors A) (A × Operator × Expression A) → Argument A
 argument_level (Argument-F.Positional e) = positional e
-argument_level (Argument-F.Input n e) = input n e
-argument_level (Argument-F.Output n a p) = output n a p.0 p.1
+argument_level (Argument-F.Input a n e) = input a n e
+argument_level (Argument-F.Output a n b p) = output a n b p.0 p.1
 
 abbrev pub expression_level : {A : Type 0} → Expr-F A (Argument A) (Expression A) (Selector A) (Root A × Selectors A) (A × Operator × Expression A) → Expression A
 expression_level (Expr-F.Int a digits) = int a digits
@@ -50,7 +49,7 @@ expression_level (Expr-F.False a) = false_value a
 expression_level (Expr-F.Null a) = null a
 expression_level (Expr-F.Place a p) = place a p.0 p.1
 expression_level (Expr-F.Call a p xs) = call a p.0 p.1 (arguments xs)
-expression_level (Expr-F.Enumerator a t n) = enumerator a t n
+expression_level (Expr-F.Enumerator a t b n) = enumerator a t b n
 expression_level (Expr-F.Ref a p) = ref a p.0 p.1
 expression_level (Expr-F.Now a) = now a
 expression_level (Expr-F.Paren a e) = paren a e
@@ -101,13 +100,13 @@ pub argument_of-Positional : {A : Type 0} (e : Expr A) → argument_of (argument
 unfolding argument_of expression_of selector_of place_of tail_of
 argument_of-Positional {A = A} e = ap (argument_of {A = A}) (sym (argument.rolls-Positional e)) ∙ fold-roll-Argument A _ _ _ _ _ argument_level expression_level selector_level place_level tail_level (Argument-F.Positional e)
 
-pub argument_of-Input : {A : Type 0} (n : Name) (e : Expr A) → argument_of (argument.Input n e) ≡ input n (expression_of e)
+pub argument_of-Input : {A : Type 0} (a : A) (n : List ℕ) (e : Expr A) → argument_of (argument.Input a n e) ≡ input a n (expression_of e)
 unfolding argument_of expression_of selector_of place_of tail_of
-argument_of-Input {A = A} n e = ap (argument_of {A = A}) (sym (argument.rolls-Input n e)) ∙ fold-roll-Argument A _ _ _ _ _ argument_level expression_level selector_level place_level tail_level (Argument-F.Input n e)
+argument_of-Input {A = A} a n e = ap (argument_of {A = A}) (sym (argument.rolls-Input a n e)) ∙ fold-roll-Argument A _ _ _ _ _ argument_level expression_level selector_level place_level tail_level (Argument-F.Input a n e)
 
-pub argument_of-Output : {A : Type 0} (n : Name) (a : A) (p : Place A) → argument_of (argument.Output n a p) ≡ output n a (place_of p).0 (place_of p).1
+pub argument_of-Output : {A : Type 0} (a : A) (n : List ℕ) (b : A) (p : Place A) → argument_of (argument.Output a n b p) ≡ output a n b (place_of p).0 (place_of p).1
 unfolding argument_of expression_of selector_of place_of tail_of
-argument_of-Output {A = A} n a p = ap (argument_of {A = A}) (sym (argument.rolls-Output n a p)) ∙ fold-roll-Argument A _ _ _ _ _ argument_level expression_level selector_level place_level tail_level (Argument-F.Output n a p)
+argument_of-Output {A = A} a n b p = ap (argument_of {A = A}) (sym (argument.rolls-Output a n b p)) ∙ fold-roll-Argument A _ _ _ _ _ argument_level expression_level selector_level place_level tail_level (Argument-F.Output a n b p)
 
 pub expression_of-Int : {A : Type 0} (a : A) (digits : List ℕ) → expression_of (code.Int a digits) ≡ int a digits
 unfolding argument_of expression_of selector_of place_of tail_of
@@ -141,9 +140,9 @@ pub expression_of-Call : {A : Type 0} (a : A) (p : Place A) (xs : List (CodeArgu
 unfolding argument_of expression_of selector_of place_of tail_of
 expression_of-Call {A = A} a p xs = ap (expression_of {A = A}) (sym (code.rolls-Call a p xs)) ∙ fold-roll-Expr A _ _ _ _ _ argument_level expression_level selector_level place_level tail_level (Expr-F.Call a p xs)
 
-pub expression_of-Enumerator : {A : Type 0} (a : A) (t : Name) (n : Name) → expression_of (code.Enumerator a t n) ≡ enumerator a t n
+pub expression_of-Enumerator : {A : Type 0} (a : A) (t : List ℕ) (b : A) (n : List ℕ) → expression_of (code.Enumerator a t b n) ≡ enumerator a t b n
 unfolding argument_of expression_of selector_of place_of tail_of
-expression_of-Enumerator {A = A} a t n = ap (expression_of {A = A}) (sym (code.rolls-Enumerator a t n)) ∙ fold-roll-Expr A _ _ _ _ _ argument_level expression_level selector_level place_level tail_level (Expr-F.Enumerator a t n)
+expression_of-Enumerator {A = A} a t b n = ap (expression_of {A = A}) (sym (code.rolls-Enumerator a t b n)) ∙ fold-roll-Expr A _ _ _ _ _ argument_level expression_level selector_level place_level tail_level (Expr-F.Enumerator a t b n)
 
 pub expression_of-Ref : {A : Type 0} (a : A) (p : Place A) → expression_of (code.Ref a p) ≡ ref a (place_of p).0 (place_of p).1
 unfolding argument_of expression_of selector_of place_of tail_of
@@ -169,7 +168,7 @@ pub expression_of-Chain : {A : Type 0} (a : A) (e : Expr A) (ts : List (Tail A))
 unfolding argument_of expression_of selector_of place_of tail_of
 expression_of-Chain {A = A} a e ts = ap (expression_of {A = A}) (sym (code.rolls-Chain a e ts)) ∙ fold-roll-Expr A _ _ _ _ _ argument_level expression_level selector_level place_level tail_level (Expr-F.Chain a e ts)
 
-pub selector_of-Field : {A : Type 0} (a : A) (n : Name) → selector_of (selection.Field a n) ≡ field a n
+pub selector_of-Field : {A : Type 0} (a : A) (n : List ℕ) → selector_of (selection.Field a n) ≡ field a n
 unfolding argument_of expression_of selector_of place_of tail_of
 selector_of-Field {A = A} a n = ap (selector_of {A = A}) (sym (selection.rolls-Field a n)) ∙ fold-roll-Selector A _ _ _ _ _ argument_level expression_level selector_level place_level tail_level (Selector-F.Field a n)
 

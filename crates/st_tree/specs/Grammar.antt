@@ -1,6 +1,6 @@
 -- The grammar (IEC 61131-3:2013, annex A), one case for each rule. A phrase relates the lexemes before it to those behind it.
 -- The note of each node is the line of its first lexeme.
-use Rattle.std.specs.Prelude.{◌≡◌, ℕ, zero, suc, ◌<◌, ◌≤◌, ◌⊎◌, Bool, true, false, ◌||◌, List, [], ◌∷◌, Option, Some, None}
+use Rattle.std.specs.Prelude.{◌≡◌, ℕ, suc, ◌<◌, ◌≤◌, ◌⊎◌, List, [], ◌∷◌, Option, Some, None}
 use Rattle.st_types.specs.declared.elem.Elem.TheVariants as kind
 use Rattle.st_tree.specs.declared.terminal.Terminal.{Terminal}
 use Rattle.st_tree.specs.declared.terminal.Terminal.TheVariants as x
@@ -50,8 +50,8 @@ sign s = lexeme (λ t. t.terminal ≡ s)
 abbrev pub spelled : Terminal → List ℕ → Phrase
 spelled s text = lexeme (λ t. (t.terminal ≡ s) × (t.text ≡ text))
 
-abbrev pub name : Name → Phrase
-name n = lexeme (λ t. (t.terminal ≡ x.Word) × (t.text ≡ n.text) × (t.line ≡ n.line))
+abbrev pub word : List ℕ → Phrase
+word text = spelled x.Word text
 
 -- the first lexeme stands at this line
 abbrev pub At : ℕ → List Lexeme → Type 0
@@ -60,6 +60,10 @@ At line (t ∷ ts) = t.line ≡ line
 
 abbrev pub at : ℕ → Phrase → Phrase
 at line P = λ ts rest. At line ts × P ts rest
+
+-- a name that is declared
+abbrev pub name : Name → Phrase
+name n = at n.line (word n.text)
 
 -- the first lexeme has these marks
 abbrev pub HasMarks : Marks → List Lexeme → Type 0
@@ -135,7 +139,7 @@ literal literals.False = sign x.False
 
 -- name | THIS | SUPER
 abbrev pub root : Root ℕ → Phrase
-root (roots.Name line n) = at line (spelled x.Word n)
+root (roots.Name line n) = at line (word n)
 root (roots.This line) = at line (sign x.This)
 root (roots.Super line) = at line (sign x.Super)
 
@@ -154,7 +158,7 @@ abbrev mutual
   expression (null line) l = at line (sign x.Null)
   expression (place line r s) l = at line (root r ⋆ selectors s)
   expression (call line r s xs) l = at line (root r ⋆ selectors s ⋆ sign x.Open ⋆ arguments xs ⋆ sign x.Close)
-  expression (enumerator line t n) l = at line (name t ⋆ sign x.Hash ⋆ name n)
+  expression (enumerator line t later n) l = at line (word t ⋆ sign x.Hash ⋆ at later (word n))
   expression (ref line r s) l = at line (sign x.Ref ⋆ sign x.Open ⋆ root r ⋆ selectors s ⋆ sign x.Close)
   expression (now line) l = at line (sign (x.Kind kind.Time) ⋆ sign x.Open ⋆ sign x.Close)
   expression (paren line e) l = at line (sign x.Open ⋆ expression e 0 ⋆ sign x.Close)
@@ -177,7 +181,7 @@ abbrev mutual
 
   -- "." name | "[" expr { "," expr } "]" | "^"
   pub selector : Selector ℕ → Phrase
-  selector (field line n) = sign x.Dot ⋆ at line (name n)
+  selector (field line n) = sign x.Dot ⋆ at line (word n)
   selector (index line es) = at line (sign x.OpenBracket ⋆ first_expression es ⋆ sign x.CloseBracket)
   selector (target line) = at line (sign x.Caret)
 
@@ -202,8 +206,8 @@ abbrev mutual
   -- expr | name ":=" expr | name "=>" place
   pub argument : Argument ℕ → Phrase
   argument (positional e) = expression e 0
-  argument (input n e) = name n ⋆ sign x.Assign ⋆ expression e 0
-  argument (output n line r s) = name n ⋆ sign x.Sends ⋆ at line (root r ⋆ selectors s)
+  argument (input line n e) = at line (word n) ⋆ sign x.Assign ⋆ expression e 0
+  argument (output line n later r s) = at line (word n) ⋆ sign x.Sends ⋆ at later (root r ⋆ selectors s)
 
 -- ---- types and initial values
 
@@ -219,9 +223,9 @@ ranges (r ∷ rs) = expression r.0 0 ⋆ sign x.Range ⋆ expression r.1 0 ⋆ m
 -- elementary | name | ARRAY "[" range { "," range } "]" OF type | REF_TO name
 abbrev pub spec : Spec ℕ → Phrase
 spec (elementary line k) = at line (sign (x.Kind k))
-spec (named line n) = at line (spelled x.Word n)
+spec (named line n) = at line (word n)
 spec (array line rs s) = at line (sign x.Array ⋆ sign x.OpenBracket ⋆ ranges rs ⋆ sign x.CloseBracket ⋆ sign x.Of ⋆ spec s)
-spec (reference line n) = at line (sign x.RefTo ⋆ name n)
+spec (reference line later n) = at line (sign x.RefTo ⋆ at later (word n))
 
 abbrev mutual
   -- expr | "[" part { "," part } "]" | "(" name ":=" init { "," name ":=" init } ")"
@@ -245,11 +249,11 @@ abbrev mutual
 
   pub first_field : Fields ℕ → Phrase
   first_field no_fields = never
-  first_field (field_then n i fs) = name n ⋆ sign x.Assign ⋆ initial i ⋆ more_fields fs
+  first_field (field_then line n i fs) = at line (word n) ⋆ sign x.Assign ⋆ initial i ⋆ more_fields fs
 
   pub more_fields : Fields ℕ → Phrase
   more_fields no_fields = nothing
-  more_fields (field_then n i fs) = sign x.Comma ⋆ name n ⋆ sign x.Assign ⋆ initial i ⋆ more_fields fs
+  more_fields (field_then line n i fs) = sign x.Comma ⋆ at line (word n) ⋆ sign x.Assign ⋆ initial i ⋆ more_fields fs
 
 -- ---- statements
 
@@ -258,9 +262,9 @@ abbrev pub label_end : LabelEnd ℕ → Phrase
 label_end (labels.Int line digits) = at line (spelled x.Int digits)
 label_end (labels.Negative line digits) = at line (sign x.Minus ⋆ spelled x.Int digits)
 label_end (labels.Typed line k v) = at line (sign (x.Kind k) ⋆ sign x.Hash ⋆ literal v)
-label_end (labels.Name line n) = at line (spelled x.Word n)
-label_end (labels.Enumerator line t n) = at line (name t ⋆ sign x.Hash ⋆ name n)
-label_end (labels.Field line t n) = at line (name t ⋆ sign x.Dot ⋆ name n)
+label_end (labels.Name line n) = at line (word n)
+label_end (labels.Enumerator line t later n) = at line (word t ⋆ sign x.Hash ⋆ at later (word n))
+label_end (labels.Field line t later n) = at line (word t ⋆ sign x.Dot ⋆ at later (word n))
 
 abbrev pub range_end : Option (LabelEnd ℕ) → Phrase
 range_end None = nothing
@@ -296,7 +300,7 @@ abbrev mutual
   statement (if_of line bs other) = at line (sign x.If ⋆ first_branch bs ⋆ otherwise other ⋆ sign x.EndIf)
   statement (case_of line e cs other) = at line (sign x.Case ⋆ expression e 0 ⋆ sign x.Of ⋆ cases cs ⋆ otherwise other ⋆ sign x.EndCase)
   statement (for line note n from to by ss) =
-      at line (sign x.For ⋆ at note (spelled x.Word n) ⋆ sign x.Assign ⋆ expression from 0 ⋆ sign x.To ⋆ expression to 0 ⋆ step_by by ⋆ sign x.Do ⋆ body ss ⋆ sign x.EndFor)
+      at line (sign x.For ⋆ at note (word n) ⋆ sign x.Assign ⋆ expression from 0 ⋆ sign x.To ⋆ expression to 0 ⋆ step_by by ⋆ sign x.Do ⋆ body ss ⋆ sign x.EndFor)
   statement (while line e ss) = at line (sign x.While ⋆ expression e 0 ⋆ sign x.Do ⋆ body ss ⋆ sign x.EndWhile)
   statement (repeat line ss e) = at line (sign x.Repeat ⋆ body ss ⋆ sign x.Until ⋆ expression e 0 ⋆ sign x.EndRepeat)
 

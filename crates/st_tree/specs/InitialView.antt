@@ -1,7 +1,6 @@
 -- The plain tree of an initial value of the code.
-use Rattle.std.specs.Prelude.{◌≡◌, ℕ, List, [], ◌∷◌, map, Option}
+use Rattle.std.specs.Prelude.{◌≡◌, ℕ, List, [], ◌∷◌, map}
 use Rattle.std.proofs.Common.{sym, ◌∙◌, ap}
-use Rattle.st_tree.specs.declared.name.Name.{Name}
 use Rattle.st_tree.specs.declared.expression.Expr.{Expr}
 use Rattle.st_tree.specs.Plain.{Initial, value, list, fields, Part, one, repeated, Parts, no_parts, part_then, Fields, no_fields, field_then}
 use Rattle.st_tree.specs.ExpressionView.{expression_of}
@@ -18,31 +17,31 @@ abbrev pub parts : {A : Type 0} → List (Part A) → Parts A
 parts [] = no_parts
 parts (p ∷ ps) = part_then p (parts ps)
 
-abbrev pub fields_then : {A : Type 0} → List (Name × Initial A) → Fields A
+abbrev pub fields_then : {A : Type 0} → List (A × List ℕ × Initial A) → Fields A
 fields_then [] = no_fields
-fields_then (f ∷ fs) = field_then f.0 f.1 (fields_then fs)
+fields_then (f ∷ fs) = field_then f.0 f.1 f.2 (fields_then fs)
 
 -- one level, with the plain trees of its parts in their places
-abbrev pub initial_level : {A : Type 0} → Init-F A (Initial A) (Part A) (Name × Initial A) → Initial A
+abbrev pub initial_level : {A : Type 0} → Init-F A (Initial A) (Part A) (A × List ℕ × Initial A) → Initial A
 initial_level (Init-F.Value e) = value (expression_of e)
 initial_level (Init-F.List l ps) = list l (parts ps)
 initial_level (Init-F.Fields l fs) = fields l (fields_then fs)
 
-abbrev pub part_level : {A : Type 0} → Part-F A (Initial A) (Part A) (Name × Initial A) → Part A
+abbrev pub part_level : {A : Type 0} → Part-F A (Initial A) (Part A) (A × List ℕ × Initial A) → Part A
 part_level (Part-F.One i) = one i
 part_level (Part-F.Repeated l digits i) = repeated l digits i
 
-abbrev pub field_level : {A : Type 0} → FieldInit-F A (Initial A) (Part A) (Name × Initial A) → Name × Initial A
-field_level x = (x.name, x.value)
+abbrev pub field_level : {A : Type 0} → FieldInit-F A (Initial A) (Part A) (A × List ℕ × Initial A) → A × List ℕ × Initial A
+field_level x = (x.note, x.name, x.value)
 
 unfoldable pub initial_of : {A : Type 0} → Init A → Initial A
-initial_of {A = A} = fold-Init A (Initial A) (Part A) (Name × Initial A) initial_level part_level field_level
+initial_of {A = A} = fold-Init A (Initial A) (Part A) (A × List ℕ × Initial A) initial_level part_level field_level
 
 unfoldable pub part_of : {A : Type 0} → CodePart A → Part A
-part_of {A = A} = fold-Part A (Initial A) (Part A) (Name × Initial A) initial_level part_level field_level
+part_of {A = A} = fold-Part A (Initial A) (Part A) (A × List ℕ × Initial A) initial_level part_level field_level
 
-unfoldable pub field_of : {A : Type 0} → FieldInit A → Name × Initial A
-field_of {A = A} = fold-FieldInit A (Initial A) (Part A) (Name × Initial A) initial_level part_level field_level
+unfoldable pub field_of : {A : Type 0} → FieldInit A → A × List ℕ × Initial A
+field_of {A = A} = fold-FieldInit A (Initial A) (Part A) (A × List ℕ × Initial A) initial_level part_level field_level
 
 abbrev pub parts_of : {A : Type 0} → List (CodePart A) → Parts A
 parts_of ps = parts (map part_of ps)
@@ -71,14 +70,17 @@ pub part_of-Repeated : {A : Type 0} (l : ℕ) (digits : List ℕ) (i : Init A) �
 unfolding initial_of part_of field_of
 part_of-Repeated {A = A} l digits i = ap (part_of {A = A}) (sym (part.rolls-Repeated l digits i)) ∙ fold-roll-Part A _ _ _ initial_level part_level field_level (Part-F.Repeated l digits i)
 
-pub field_of-is : {A : Type 0} (x : FieldInit A) → field_of x ≡ (x.name, (initial_of x.value))
+pub field_of-is : {A : Type 0} (x : FieldInit A) → field_of x ≡ (x.note, x.name, (initial_of x.value))
 unfolding initial_of part_of field_of
 field_of-is {A = A} x = fold_out-FieldInit A _ _ _ initial_level part_level field_level x
 
-pub field_of-name : {A : Type 0} (x : FieldInit A) → (field_of x).0 ≡ x.name
-field_of-name x = ap (λ p. p.0) (field_of-is x)
+pub field_of-note : {A : Type 0} (x : FieldInit A) → (field_of x).0 ≡ x.note
+field_of-note x = ap (λ p. p.0) (field_of-is x)
 
-pub field_of-value : {A : Type 0} (x : FieldInit A) → (field_of x).1 ≡ (initial_of x.value)
-field_of-value x = ap (λ p. p.1) (field_of-is x)
+pub field_of-name : {A : Type 0} (x : FieldInit A) → (field_of x).1 ≡ x.name
+field_of-name x = ap (λ p. p.1) (field_of-is x)
 
-pub ruleset initial_views = (initial_of-Value, initial_of-List, initial_of-Fields, part_of-One, part_of-Repeated, field_of-name, field_of-value)
+pub field_of-value : {A : Type 0} (x : FieldInit A) → (field_of x).2 ≡ (initial_of x.value)
+field_of-value x = ap (λ p. p.2) (field_of-is x)
+
+pub ruleset initial_views = (initial_of-Value, initial_of-List, initial_of-Fields, part_of-One, part_of-Repeated, field_of-note, field_of-name, field_of-value)

@@ -2,7 +2,6 @@
 -- since a definition goes down a tree and its lists together.
 use Rattle.std.specs.Prelude.{ℕ, List, Option}
 use Rattle.st_types.specs.declared.elem.Elem.{Elem}
-use Rattle.st_tree.specs.declared.name.Name.{Name}
 use Rattle.st_tree.specs.declared.expression.Operator.{Operator}
 use Rattle.st_tree.specs.declared.expression.Literal.{Literal}
 use Rattle.st_tree.specs.declared.expression.Root.{Root}
@@ -18,7 +17,7 @@ mutual
     null : A → Expression A
     place : A → Root A → Selectors A → Expression A
     call : A → Root A → Selectors A → Arguments A → Expression A
-    enumerator : A → Name → Name → Expression A
+    enumerator : A → List ℕ → A → List ℕ → Expression A
     ref : A → Root A → Selectors A → Expression A
     now : A → Expression A
     paren : A → Expression A → Expression A
@@ -31,7 +30,7 @@ mutual
     expression_then : Expression A → Expressions A → Expressions A
 
   pub data Selector (A : Type 0) : Type 0 where
-    field : A → Name → Selector A
+    field : A → List ℕ → Selector A
     index : A → Expressions A → Selector A
     target : A → Selector A
 
@@ -41,8 +40,8 @@ mutual
 
   pub data Argument (A : Type 0) : Type 0 where
     positional : Expression A → Argument A
-    input : Name → Expression A → Argument A
-    output : Name → A → Root A → Selectors A → Argument A
+    input : A → List ℕ → Expression A → Argument A
+    output : A → List ℕ → A → Root A → Selectors A → Argument A
 
   pub data Arguments (A : Type 0) : Type 0 where
     no_arguments : Arguments A
@@ -56,7 +55,7 @@ pub data Spec (A : Type 0) : Type 0 where
   elementary : A → Elem → Spec A
   named : A → List ℕ → Spec A
   array : A → List (Expression A × Expression A) → Spec A → Spec A
-  reference : A → Name → Spec A
+  reference : A → A → List ℕ → Spec A
 
 mutual
   pub data Initial (A : Type 0) : Type 0 where
@@ -74,7 +73,7 @@ mutual
 
   pub data Fields (A : Type 0) : Type 0 where
     no_fields : Fields A
-    field_then : Name → Initial A → Fields A → Fields A
+    field_then : A → List ℕ → Initial A → Fields A → Fields A
 
 mutual
   pub data Statement (A : Type 0) : Type 0 where

@@ -1,8 +1,7 @@
 -- The plain tree of a type of the code.
-use Rattle.std.specs.Prelude.{◌≡◌, ℕ, List, [], ◌∷◌, map, Option}
+use Rattle.std.specs.Prelude.{◌≡◌, ℕ, List, map}
 use Rattle.std.proofs.Common.{sym, ◌∙◌, ap}
 use Rattle.st_types.specs.declared.elem.Elem.{Elem}
-use Rattle.st_tree.specs.declared.name.Name.{Name}
 use Rattle.st_tree.specs.declared.type_spec.Bounds.{Bounds}
 use Rattle.st_tree.specs.Plain.{Expression, Spec, elementary, named, array, reference}
 use Rattle.st_tree.specs.ExpressionView.{expression_of}
@@ -19,7 +18,7 @@ abbrev pub spec_level : {A : Type 0} → TypeSpec-F A (Spec A) → Spec A
 spec_level (TypeSpec-F.Elementary a k) = elementary a k
 spec_level (TypeSpec-F.Named a n) = named a n
 spec_level (TypeSpec-F.Array a bs s) = array a (map bounds_of bs) s
-spec_level (TypeSpec-F.Reference a n) = reference a n
+spec_level (TypeSpec-F.Reference a b n) = reference a b n
 
 unfoldable pub spec_of : {A : Type 0} → TypeSpec A → Spec A
 spec_of {A = A} = fold-TypeSpec A (Spec A) spec_level
@@ -37,8 +36,8 @@ pub spec_of-Array : {A : Type 0} (a : A) (bs : List (Bounds A)) (s : TypeSpec A)
 unfolding spec_of
 spec_of-Array {A = A} a bs s = ap (spec_of {A = A}) (sym (code.rolls-Array a bs s)) ∙ fold-roll-TypeSpec A _ spec_level (TypeSpec-F.Array a bs s)
 
-pub spec_of-Reference : {A : Type 0} (a : A) (n : Name) → spec_of (code.Reference a n) ≡ reference a n
+pub spec_of-Reference : {A : Type 0} (a : A) (b : A) (n : List ℕ) → spec_of (code.Reference a b n) ≡ reference a b n
 unfolding spec_of
-spec_of-Reference {A = A} a n = ap (spec_of {A = A}) (sym (code.rolls-Reference a n)) ∙ fold-roll-TypeSpec A _ spec_level (TypeSpec-F.Reference a n)
+spec_of-Reference {A = A} a b n = ap (spec_of {A = A}) (sym (code.rolls-Reference a b n)) ∙ fold-roll-TypeSpec A _ spec_level (TypeSpec-F.Reference a b n)
 
 pub ruleset spec_views = (spec_of-Elementary, spec_of-Named, spec_of-Array, spec_of-Reference)

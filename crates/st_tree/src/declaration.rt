@@ -1,6 +1,6 @@
 use crate::initial::Init;
 use crate::marks::Marks;
-use crate::name::Name;
+use crate::name::{Name, Used};
 use crate::statement::Stmt;
 use crate::type_spec::TypeSpec;
 use plc_text::{Items, Text};
@@ -92,7 +92,7 @@ pub struct InterfaceDecl<A> {
     pub line: u32,
     pub name: Name,
     /// The interfaces that it extends.
-    pub bases: Items<Name>,
+    pub bases: Items<Used<A>>,
     pub methods: Items<Prototype<A>>,
 }
 
@@ -128,9 +128,9 @@ pub struct ClassDecl<A> {
     pub sort: ClassSort,
     pub modifiers: Items<Modifier>,
     pub name: Name,
-    pub base: Option<Name>,
+    pub base: Option<Used<A>>,
     /// The interfaces that it implements.
-    pub interfaces: Items<Name>,
+    pub interfaces: Items<Used<A>>,
     pub members: Items<Member<A>>,
     /// Without statements for a class.
     pub body: Items<Stmt<A>>,

@@ -1,6 +1,5 @@
 ghost use Rattle.std.specs.Prelude.{◌≡◌, IfOk};
 
-use crate::name::Name;
 use plc_text::{Items, NoMemory, Text};
 use st_types::{Boxed, Elem};
 use std::alloc::Global;
@@ -63,8 +62,8 @@ pub enum Root<A> {
 #[cycle(expression)]
 #[derive(Drop)]
 pub enum Selector<A> {
-    /// `.name`
-    Field(A, Name),
+    /// `.name`, with the note of the name.
+    Field(A, Text),
     /// `[index, ..]`
     Index(A, Items<Expr<A>>),
     /// `^`
@@ -95,9 +94,9 @@ pub struct Tail<A> {
 pub enum Argument<A> {
     Positional(Expr<A>),
     /// `name := value`
-    Input(Name, Expr<A>),
-    /// `name => place`
-    Output(Name, A, Place<A>),
+    Input(A, Text, Expr<A>),
+    /// `name => place`, with the notes of both.
+    Output(A, Text, A, Place<A>),
 }
 
 /// An expression with a note at each node: its line, or what is found out about it.
@@ -115,8 +114,8 @@ pub enum Expr<A> {
     Null(A),
     Place(A, Place<A>),
     Call(A, Place<A>, Items<Argument<A>>),
-    /// `Type#Name`
-    Enumerator(A, Name, Name),
+    /// `Type#Name`, with the note of the name.
+    Enumerator(A, Text, A, Text),
     /// `REF(place)`
     Ref(A, Place<A>),
     /// `TIME()`

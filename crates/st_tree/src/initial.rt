@@ -1,5 +1,4 @@
 use crate::expression::Expr;
-use crate::name::Name;
 use plc_text::{Items, Text};
 
 /// An initial value.
@@ -25,6 +24,7 @@ pub enum Part<A> {
 #[cycle(initial)]
 #[derive(Drop)]
 pub struct FieldInit<A> {
-    pub name: Name,
+    pub note: A,
+    pub name: Text,
     pub value: Init<A>,
 }

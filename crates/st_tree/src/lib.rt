@@ -26,9 +26,9 @@ pub use declaration::{
 pub use expression::{Argument, Expr, Literal, Operator, Place, Root, Selector, Tail};
 pub use initial::{FieldInit, Init, Part};
 pub use marks::Marks;
-pub use name::Name;
+pub use name::{Name, Used};
 pub use path::{Path, Step, Steps};
-pub use program::{Note, Program, RegionDecl, Target, TaskDecl};
+pub use program::{ConstantDecl, Note, Program, RegionDecl, Target, TaskDecl};
 pub use statement::{Branch, Case, Label, LabelEnd, Otherwise, Stmt};
 pub use terminal::{Terminal, terminal_laws};
 pub use token::{TokenKind, token_laws};

@@ -1,4 +1,5 @@
 use crate::declaration::{ClassDecl, FunctionDecl, InterfaceDecl, ProgramDecl, TypeDecl};
+use crate::initial::Init;
 use crate::marks::Marks;
 use plc_text::{Items, Text};
 use st_types::StType;
@@ -25,6 +26,8 @@ pub enum Target {
     Function(u32),
     /// A method of the class or interface that the node's place has.
     Method(u32),
+    /// An input, output or in-out of what is called.
+    Parameter(u32),
     /// A value of an enumeration.
     Enumerator(u32),
 }
@@ -38,7 +41,7 @@ pub struct Note {
 }
 
 /// A region of the store: a global, or a program instance.
-#[derive(Debug, Drop)]
+#[derive(Drop)]
 pub struct RegionDecl {
     pub name: Text,
     /// Whether it is a program instance.
@@ -46,6 +49,16 @@ pub struct RegionDecl {
     /// For a program instance its instance type.
     pub kind: StType,
     pub marks: Marks,
+    /// Of a global, where it has one of its own.
+    pub initial: Option<Init<Note>>,
+}
+
+/// A global constant. Its value is a number of its kind, or the number of an enumerator.
+#[derive(Debug, Drop)]
+pub struct ConstantDecl {
+    pub name: Text,
+    pub kind: StType,
+    pub value: i128,
 }
 
 /// A task with its programs, which are numbers of regions.
@@ -66,6 +79,7 @@ pub struct Program {
     pub interfaces: Items<InterfaceDecl<Note>>,
     pub functions: Items<FunctionDecl<Note>>,
     pub programs: Items<ProgramDecl<Note>>,
+    pub constants: Items<ConstantDecl>,
     pub regions: Items<RegionDecl>,
     pub tasks: Items<TaskDecl>,
 }

@@ -1,5 +1,4 @@
 use crate::expression::{Argument, Expr, Literal, Place};
-use crate::name::Name;
 use plc_text::{Items, Text};
 use st_types::Elem;
 
@@ -10,10 +9,10 @@ pub enum LabelEnd<A> {
     Negative(A, Text),
     Typed(A, Elem, Literal),
     Name(A, Text),
-    /// `Type#Name`
-    Enumerator(A, Name, Name),
-    /// `Type.Name`
-    Field(A, Name, Name),
+    /// `Type#Name`, with the note of the name.
+    Enumerator(A, Text, A, Text),
+    /// `Type.Name`, with the note of the name.
+    Field(A, Text, A, Text),
 }
 
 /// `first..last`, or one value.

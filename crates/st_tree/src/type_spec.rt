@@ -1,5 +1,4 @@
 use crate::expression::Expr;
-use crate::name::Name;
 use plc_text::{Items, Text};
 use st_types::{Boxed, Elem};
 
@@ -18,6 +17,6 @@ pub enum TypeSpec<A> {
     Named(A, Text),
     /// `ARRAY [low..high, ..] OF type`
     Array(A, Items<Bounds<A>>, Boxed<TypeSpec<A>>),
-    /// `REF_TO name`
-    Reference(A, Name),
+    /// `REF_TO name`, with the note of the name.
+    Reference(A, A, Text),
 }
