@@ -1,3 +1,5 @@
 pub mod Classes
 pub mod Reach
 pub mod Fronts
+pub mod Views
+pub mod Position

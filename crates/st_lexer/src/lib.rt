@@ -2,6 +2,11 @@
 #![tactic(auto)]
 
 mod characters;
+mod lexer;
 mod marks;
 mod piece;
 mod reach;
+mod token;
+
+pub use lexer::Lexer;
+pub use token::{Next, Token};
