@@ -7,3 +7,5 @@ pub mod LoopLaws
 pub mod KindLaws
 pub mod LexLaws
 pub mod AsciiLaws
+pub mod HeadingLaws
+pub mod SourceLaws

@@ -3,3 +3,4 @@ pub mod Reach
 pub mod Fronts
 pub mod Views
 pub mod Position
+pub mod Refused
