@@ -1,13 +1,13 @@
 -- Tokens are of ASCII characters.
-use Rattle.std.proofs.Common.{◌≡◌, ℕ, zero, suc, ◌+◌, ◌-◌, ◌<◌, ◌≤◌, Bool, true, false, ◌&&◌, ◌||◌, not, List, [], ◌∷◌, length, take, drop, refl, sym, ap, subst, ◌∙◌, inl, inr, nat_eq, nat_lt, cond, codes, Option, None, Some, length-drop, arith}
+use Rattle.std.proofs.Common.{◌≡◌, ℕ, zero, suc, ◌-◌, ◌≤◌, Bool, true, false, ◌&&◌, ◌||◌, List, [], ◌∷◌, length, take, drop, refl, sym, ap, ◌∙◌, inl, inr, nat_eq, nat_lt, codes, None, Some, length-drop, arith}
 use Rattle.std.proofs.lemmas.Bool.{and_parts, and_from, or_parts, or_cases, both_ways, cases_Bool, cond-true, cond-false, ltb-true, eqb-true}
 use Rattle.std.proofs.lemmas.Bool.Decides.{nat_tests}
 use Rattle.std.proofs.lemmas.Str.Ascii.{IsAscii-nil, IsAscii-cons}
 use Rattle.std.specs.Str.{IsAscii}
 use Rattle.std.specs.Char.{to_ascii_uppercase}
-use Rattle.std.specs.List.{list_all, list_any, take_while, prefix_len}
+use Rattle.std.specs.List.{list_all}
 use Rattle.st_tree.specs.declared.token.TokenKind.{TokenKind}
-use Rattle.st_tree.specs.declared.token.TokenKind.TheVariants.{Word, Keyword, Int, Time, Address, Symbol, Mark}
+use Rattle.st_tree.specs.declared.token.TokenKind.TheVariants.{Mark}
 use Rattle.st_tree.specs.Words.{is_one_of, spells, opens, begins, behind_all, is_blank, is_digit, is_binary_digit, is_octal_digit, is_hexadecimal_digit, is_letter, is_word_character, is_word, is_number}
 use Rattle.st_tree.specs.Pieces.{is_white_space, is_comment, is_pragma, ends_first, are_spaced, are_split, is_bit_place, is_int, begins_part, behind_part, is_underscore, behind_underscore, is_empty, are_parts, units, is_time, is_point, is_location, is_address, opens_one_of, is_whole_word, is_whole_symbol, is_symbol, symbols, is_piece}
 use Rattle.st_tree.specs.Marks.{inside, behind_blanks, is_attribute, is_no_copy, is_init_on_change, behind_renamed, is_renamed, is_mark}

@@ -8,6 +8,8 @@ mod marks;
 mod piece;
 mod reach;
 mod source;
+#[cfg(test)]
+mod tests;
 mod token;
 
 pub use headings::declaration;
