@@ -1,9 +1,9 @@
 -- What the lexer's loops and calls give.
-use Rattle.std.proofs.Common.{◌≡◌, ℕ, ◌+◌, ◌-◌, ◌<◌, ◌≤◌, Bool, true, false, List, [], ◌∷◌, length, take, drop, get_or, refl, sym, ap, ◌∙◌, cond, nat_eq, codes, ◌&&◌, max, length-drop, arith}
-use Rattle.std.proofs.lemmas.List.{at_drop_more, drop_more, take_rest}
-use Rattle.std.proofs.lemmas.Bool.{cond-true, cond-false, eq-eqb, ne_eqb}
-use Rattle.st_tree.specs.Words.{opens, begins}
-use Rattle.st_tree.specs.Pieces.{units, is_underscore}
+use Rattle.std.proofs.Common.{◌≡◌, ℕ, ◌+◌, ◌-◌, ◌<◌, Bool, true, false, List, ◌∷◌, length, take, drop, get_or, sym, ap, ◌∙◌, cond, nat_eq, codes, ◌&&◌}
+use Rattle.std.proofs.lemmas.List.{drop_more, take_rest}
+use Rattle.std.proofs.lemmas.Bool.{cond-true, cond-false, ne_eqb}
+use Rattle.st_tree.specs.Words.{opens}
+use Rattle.st_tree.specs.Pieces.{units}
 use Rattle.st_tree.specs.Marks.{inside, behind_blanks, is_renamed}
 use Rattle.st_lexer.specs.Reach.{names, with_head, closing_from, part_len, underscore_len, parts_len, timed_len}
 

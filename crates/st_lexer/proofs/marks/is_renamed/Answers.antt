@@ -1,4 +1,4 @@
-use Rattle.std.proofs.Common.{sym, ◌∙◌}
+use Rattle.std.proofs.Common.{sym}
 use Rattle.st_lexer.proofs.LoopLaws.{renamed_is}
 use Rattle.st_lexer.proofs.marks.is_renamed.Goals as goal
 
