@@ -14,5 +14,6 @@ mod token;
 
 pub use headings::declaration;
 pub use lexer::Lexer;
+pub use marks::{is_init_on_change, is_no_copy, old_name};
 pub use source::{MAX_SOURCE, tokens};
 pub use token::{Next, Token};

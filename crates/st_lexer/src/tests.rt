@@ -1,4 +1,4 @@
-use crate::{Lexer, MAX_SOURCE, Next, tokens};
+use crate::{Lexer, MAX_SOURCE, Next, is_init_on_change, is_no_copy, old_name, tokens};
 use plc_text::{Denied, Text};
 use st_tree::TokenKind;
 use std::alloc::{AllocError, Global};
@@ -138,6 +138,16 @@ fn reads_marks(rt: HostRuntime) -> Result<(), Fail> {
             ("{attribute 'no_copy' x}{renamed_from a b}", ""),
         ],
     )
+}
+
+#[test]
+fn tells_marks(rt: HostRuntime) {
+    let mark = "{Renamed_From\n Old_1}";
+    assert_eq!(rt; old_name(mark), Some("Old_1"));
+    assert_eq!(rt; old_name("{}"), None);
+    assert!(rt; !is_no_copy(mark) && !is_init_on_change(mark));
+    assert!(rt; is_no_copy("{attribute'No_Copy'}"));
+    assert!(rt; is_init_on_change("{attribute 'init_on_onlchange' }"));
 }
 
 #[test]
