@@ -1,0 +1,11 @@
+pub mod HeadLaws
+pub mod RunLaws
+pub mod FormLaws
+pub mod PartLaws
+pub mod PieceLaws
+pub mod LoopLaws
+pub mod KindLaws
+pub mod LexLaws
+pub mod AsciiLaws
+pub mod HeadingLaws
+pub mod SourceLaws

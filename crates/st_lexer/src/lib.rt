@@ -1,0 +1,19 @@
+//! Reads the tokens of a program's text (IEC 61131-3:2013, 6.1), in one pass and without a copy of the text.
+#![tactic(auto)]
+
+mod characters;
+mod headings;
+mod lexer;
+mod marks;
+mod piece;
+mod reach;
+mod source;
+#[cfg(test)]
+mod tests;
+mod token;
+
+pub use headings::declaration;
+pub use lexer::Lexer;
+pub use marks::{is_init_on_change, is_no_copy, old_name};
+pub use source::{MAX_SOURCE, tokens};
+pub use token::{Next, Token};

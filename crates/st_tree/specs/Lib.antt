@@ -1,0 +1,16 @@
+pub mod Words
+pub mod Pieces
+pub mod Marks
+pub mod Tokens
+pub mod Spelled
+pub mod Headings
+pub mod Terminals
+pub mod Plain
+pub mod ExpressionView
+pub mod SpecView
+pub mod InitialView
+pub mod StatementView
+pub mod Grammar
+pub mod Declarations
+pub mod Reads
+pub use Rattle.plc_text.specs.declared.lines.Span

@@ -1,0 +1,36 @@
+//! The tokens and the tree of a program text: a node for each rule of the grammar (IEC 61131-3:2013, 6.1 and annex A). Each
+//! node has a note: its line in the text as it is written, or what is found out about it in a checked program.
+#![tactic(auto)]
+
+mod configuration;
+mod declaration;
+mod expression;
+mod initial;
+mod marks;
+mod name;
+mod path;
+mod program;
+mod statement;
+mod terminal;
+#[cfg(test)]
+mod tests;
+mod token;
+mod type_spec;
+mod unit;
+
+pub use configuration::{Configuration, InstanceSpec, Resource, Setting, SettingValue, TaskSpec};
+pub use declaration::{
+    ClassDecl, ClassSort, FieldGroup, FunctionDecl, InterfaceDecl, Item, Member, Method, Modifier,
+    ProgramDecl, Prototype, Section, SectionSort, TypeBody, TypeDecl,
+};
+pub use expression::{Argument, Expr, Literal, Operator, Place, Root, Selector, Tail};
+pub use initial::{FieldInit, Init, Part};
+pub use marks::Marks;
+pub use name::{Name, Used};
+pub use path::{Path, Step, Steps};
+pub use program::{ConstantDecl, Note, Program, RegionDecl, Target, TaskDecl};
+pub use statement::{Branch, Case, Label, LabelEnd, Otherwise, Stmt};
+pub use terminal::{Terminal, terminal_laws};
+pub use token::{TokenKind, token_laws};
+pub use type_spec::{Bounds, TypeSpec};
+pub use unit::{Decl, Unit};

@@ -1,0 +1,85 @@
+use crate::declaration::{ClassDecl, FunctionDecl, InterfaceDecl, ProgramDecl, TypeDecl};
+use crate::initial::Init;
+use crate::marks::Marks;
+use plc_text::{Items, Text};
+use st_types::StType;
+
+/// What a name means. A number counts from 0 in the order of the text.
+#[derive(Clone, Copy, Debug, PartialEq, Eq)]
+pub enum Target {
+    /// The node names nothing.
+    Nothing,
+    /// A local of the routine: its result, inputs, outputs, in-outs and variables.
+    Local(u32),
+    /// A constant of the routine.
+    LocalConstant(u32),
+    /// A variable of the class, those of its bases first.
+    Variable(u32),
+    /// A constant of the class, those of its bases first.
+    ClassConstant(u32),
+    /// A field of a structure.
+    Field(u32),
+    /// A global that is no constant: its region.
+    Region(u32),
+    /// A global that is a constant, counted among these.
+    GlobalConstant(u32),
+    Function(u32),
+    /// A method of the class or interface that the node's place has.
+    Method(u32),
+    /// An input, output or in-out of what is called.
+    Parameter(u32),
+    /// A value of an enumeration.
+    Enumerator(u32),
+}
+
+/// What is found out about a node.
+#[derive(Debug, Drop)]
+pub struct Note {
+    pub line: u32,
+    pub kind: StType,
+    pub target: Target,
+}
+
+/// A region of the store: a global, or a program instance.
+#[derive(Drop)]
+pub struct RegionDecl {
+    pub name: Text,
+    /// Whether it is a program instance.
+    pub program: bool,
+    /// For a program instance its instance type.
+    pub kind: StType,
+    pub marks: Marks,
+    /// Of a global, where it has one of its own.
+    pub initial: Option<Init<Note>>,
+}
+
+/// A global constant. Its value is a number of its kind, or the number of an enumerator.
+#[derive(Debug, Drop)]
+pub struct ConstantDecl {
+    pub name: Text,
+    pub kind: StType,
+    pub value: i128,
+}
+
+/// A task with its programs, which are numbers of regions.
+#[derive(Drop)]
+pub struct TaskDecl {
+    pub name: Text,
+    /// In milliseconds.
+    pub interval: Option<u32>,
+    pub priority: Option<u32>,
+    pub programs: Items<u32>,
+}
+
+/// A checked unit: the declarations of each sort in the order of the text, function blocks among the classes.
+#[derive(Drop)]
+pub struct Program {
+    pub types: Items<TypeDecl<Note>>,
+    pub classes: Items<ClassDecl<Note>>,
+    pub interfaces: Items<InterfaceDecl<Note>>,
+    pub functions: Items<FunctionDecl<Note>>,
+    pub programs: Items<ProgramDecl<Note>>,
+    pub constants: Items<ConstantDecl>,
+    pub regions: Items<RegionDecl>,
+    pub tasks: Items<TaskDecl>,
+}
