@@ -1,4 +1,5 @@
 pub mod CheckLaws
+pub mod NameLaws
 pub mod Parts
 pub mod PlayLines
 pub mod ScenarioParts

@@ -1,4 +1,5 @@
 pub mod Among
+pub mod NameView
 pub mod Scenario
 pub mod ScenarioReading
 pub mod Accepted

@@ -1,4 +1,4 @@
-ghost use Rattle.std.specs.Prelude.{◌≡◌, false, ◌++◌, ◌<◌, ◌≤◌, ◌^◌, pos, not, ◌&&◌, codes, IsTrue, ◌↔◌, MatchOption, SomeIff, map, IfOk, IfErr};
+ghost use Rattle.std.specs.Prelude.{◌≡◌, false, ◌++◌, ◌<◌, ◌≤◌, ◌^◌, pos, not, ◌&&◌, codes, IsTrue, ◌↔◌, MatchOption, SomeIff, map, length, IfOk, IfErr};
 ghost use Rattle.std.specs.Bool.{MatchBool};
 ghost use Rattle.std.specs.List.{list_any, AllByRecursion};
 ghost use Rattle.plc_console.specs.Among.{IsAmong, AreDistinct};
@@ -7,10 +7,9 @@ ghost use Rattle.plc_console.specs.Checking.{IsBehind};
 ghost use Rattle.st_reader.specs.Words.{number};
 ghost use Rattle.st_reader.specs.Tokens.{same};
 ghost use Rattle.plc_console.specs.Accepted.{is_conversion as is_conversion_name, is_standard_block as is_standard_block_name, cell_of as cell_of_variable, names_of as names_of_variables, addresses_of as addresses_of_cells, IsGoodVariable, IsGoodItem, typed_item as typed_item_of, IsGoodTail, typed_tail as typed_tail_of, IsGoodStatement, typed_statement as typed_statement_of, number_of as number_of_name, HasFreeNames, HasGoodConfiguration, IsGood, program_of};
-ghost use Rattle.indexmap.specs.IndexSet.{index_set_len};
 
+use crate::name_table::NameTable;
 use crate::program::{Cell, Program};
-use indexmap::IndexSet;
 use plc_text::{Items, Text};
 use st_reader::source_error::SourceError;
 use st_reader::unit::{Item, Statement, Sum, Tail, Unit, Variable};
@@ -170,33 +169,23 @@ fn addresses_differ(alloc: Global, cells: &[Cell]) -> Result<bool, AllocError>
 }
 
 /// The names of the variables in their order, if they differ.
-fn names_of(alloc: Global, variables: &[Variable]) -> Result<IndexSet<Text>, SourceError>
-    ensures ok { IfOk result (λ names. AreDistinct (names_of_variables variables.now) × (names.keys ≡ names_of_variables variables.now)) }
+fn names_of<'a>(alloc: Global, variables: &'a [Variable]) -> Result<NameTable<'a>, SourceError>
+    ensures ok { IfOk result (λ names. AreDistinct (names_of_variables variables.now) × (names ≡ names_of_variables variables.now)) }
     ensures refused { IfErr result (λ e. OnRefused e (AreDistinct (names_of_variables variables.now) → ⊥)) }
 {
-    let mut names = IndexSet::new(alloc);
+    let mut names = NameTable::new(alloc);
     for variable in variables {
-        let name = Text::copy(alloc, variable.name.as_str())?;
-        if !names.insert(name)? {
+        if !names.insert(&variable.name)? {
             return Err(SourceError::Refused);
         }
     }
     Ok(names)
 }
 
-/// The number of the variable of the name.
-fn number_of(names: &IndexSet<Text>, name: &Text) -> Option<u32>
-    requires { index_set_len names.now ≤ 131071 }
-    ensures { MatchOption result (IsAmong names.now.keys name.now → ⊥) (λ number. IsAmong names.now.keys name.now × (number ≡ number_of_name names.now.keys name.now)) }
-{
-    let number = names.get_index_of(name)?;
-    Some(number as u32)
-}
-
 /// The item with its variable's number, if the variable is known and the literal is a DINT.
-fn typed_item(names: &IndexSet<Text>, item: &Item<Text, Text>) -> Option<Item<u32, i32>>
-    requires { index_set_len names.now ≤ 131071 }
-    ensures { MatchOption result (IsGoodItem names.now.keys item.now → ⊥) (λ typed. IsGoodItem names.now.keys item.now × (typed ≡ typed_item_of names.now.keys item.now)) }
+fn typed_item(names: &NameTable<'_>, item: &Item<Text, Text>) -> Option<Item<u32, i32>>
+    requires { length names.now ≤ 131071 }
+    ensures { MatchOption result (IsGoodItem names.now item.now → ⊥) (λ typed. IsGoodItem names.now item.now × (typed ≡ typed_item_of names.now item.now)) }
 {
     match item {
         Item::Literal(digits) => {
@@ -204,7 +193,7 @@ fn typed_item(names: &IndexSet<Text>, item: &Item<Text, Text>) -> Option<Item<u3
             Some(Item::Literal(literal as i32))
         }
         Item::Variable(name) => {
-            let number = number_of(names, name)?;
+            let number = names.number_of(name)?;
             Some(Item::Variable(number))
         }
     }
@@ -213,12 +202,12 @@ fn typed_item(names: &IndexSet<Text>, item: &Item<Text, Text>) -> Option<Item<u3
 /// The operators and items with the numbers of their variables.
 fn typed_tails(
     alloc: Global,
-    names: &IndexSet<Text>,
+    names: &NameTable<'_>,
     tails: &[Tail<Text, Text>],
 ) -> Result<Items<Tail<u32, i32>>, SourceError>
-    requires { index_set_len names.now ≤ 131071 }
-    ensures ok { IfOk result (λ typed. AllByRecursion (IsGoodTail names.now.keys) tails.now × (typed ≡ map (typed_tail_of names.now.keys) tails.now)) }
-    ensures refused { IfErr result (λ e. OnRefused e (AllByRecursion (IsGoodTail names.now.keys) tails.now → ⊥)) }
+    requires { length names.now ≤ 131071 }
+    ensures ok { IfOk result (λ typed. AllByRecursion (IsGoodTail names.now) tails.now × (typed ≡ map (typed_tail_of names.now) tails.now)) }
+    ensures refused { IfErr result (λ e. OnRefused e (AllByRecursion (IsGoodTail names.now) tails.now → ⊥)) }
 {
     let mut typed = Items::new(alloc);
     for tail in tails {
@@ -236,18 +225,18 @@ fn typed_tails(
 /// The statement with the numbers of its variables.
 fn typed_statement(
     alloc: Global,
-    names: &IndexSet<Text>,
+    names: &NameTable<'_>,
     statement: &Statement<Text, Text>,
 ) -> Result<Statement<u32, i32>, SourceError>
-    requires { index_set_len names.now ≤ 131071 }
-    ensures ok { IfOk result (λ typed. IsGoodStatement names.now.keys statement.now × (typed ≡ typed_statement_of names.now.keys statement.now)) }
-    ensures refused { IfErr result (λ e. OnRefused e (IsGoodStatement names.now.keys statement.now → ⊥)) }
+    requires { length names.now ≤ 131071 }
+    ensures ok { IfOk result (λ typed. IsGoodStatement names.now statement.now × (typed ≡ typed_statement_of names.now statement.now)) }
+    ensures refused { IfErr result (λ e. OnRefused e (IsGoodStatement names.now statement.now → ⊥)) }
 {
     let value = &statement.value;
     if value.rest.len() > MOST_OPERATORS {
         return Err(SourceError::Refused);
     }
-    let Some(target) = number_of(names, &statement.target) else {
+    let Some(target) = names.number_of(&statement.target) else {
         return Err(SourceError::Refused);
     };
     let Some(first) = typed_item(names, &value.first) else {
@@ -263,12 +252,12 @@ fn typed_statement(
 /// The statements with the numbers of their variables.
 fn typed_statements(
     alloc: Global,
-    names: &IndexSet<Text>,
+    names: &NameTable<'_>,
     statements: &[Statement<Text, Text>],
 ) -> Result<Items<Statement<u32, i32>>, SourceError>
-    requires { index_set_len names.now ≤ 131071 }
-    ensures ok { IfOk result (λ typed. AllByRecursion (IsGoodStatement names.now.keys) statements.now × (typed ≡ map (typed_statement_of names.now.keys) statements.now)) }
-    ensures refused { IfErr result (λ e. OnRefused e (AllByRecursion (IsGoodStatement names.now.keys) statements.now → ⊥)) }
+    requires { length names.now ≤ 131071 }
+    ensures ok { IfOk result (λ typed. AllByRecursion (IsGoodStatement names.now) statements.now × (typed ≡ map (typed_statement_of names.now) statements.now)) }
+    ensures refused { IfErr result (λ e. OnRefused e (AllByRecursion (IsGoodStatement names.now) statements.now → ⊥)) }
 {
     let mut typed = Items::new(alloc);
     for statement in statements {

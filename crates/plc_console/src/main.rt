@@ -4,6 +4,7 @@
 mod check;
 mod cycle;
 mod gate;
+mod name_table;
 mod plc;
 mod program;
 mod scenario;

@@ -5,6 +5,6 @@ use Rattle.plc_console.proofs.check.typed_tails.Given as goal
 
 abbrev pub invariant-loop-tail : goal.invariant-loop-tail
 invariant-loop-tail l = record {
-  good : AllByRecursion (IsGoodTail l.names.keys) (take l.tail-index l.tails);
-  typed-are : l.typed ≡ map (typed_tail l.names.keys) (take l.tail-index l.tails);
+  good : AllByRecursion (IsGoodTail l.names) (take l.tail-index l.tails);
+  typed-are : l.typed ≡ map (typed_tail l.names) (take l.tail-index l.tails);
 }
