@@ -4,7 +4,7 @@ use Rattle.std.proofs.lemmas.Bool.{and_from, and_left, and_right, or_from, both_
 use Rattle.std.proofs.lemmas.List.{take-append-drop}
 use Rattle.std.specs.List.{prefix_len, AllByRecursion}
 use Rattle.std.proofs.lemmas.List.Sums.{prefix_len-le-length}
-use Rattle.st_tree.specs.Words.{is_one_of, begins, is_letter, is_word_character}
+use Rattle.st_tree.specs.Words.{is_one_of, spells, begins, is_letter, is_word_character}
 use Rattle.st_tree.specs.Pieces.{is_whole_word, is_whole_symbol, is_symbol, symbols, opens_comment, is_number_sign, is_piece}
 use Rattle.st_lexer.specs.Fronts.{IsLongest, IsLongestFront}
 use Rattle.st_lexer.specs.Reach.{word_len, symbol_len, reaches_of, longest_of}
@@ -79,7 +79,7 @@ whole_word_front text = elim (cases_Bool (begins is_letter text)) [
 no_long : (words : List (List ℕ)) (text : List ℕ) → AllByRecursion (λ word. length word ≤ 2) words → 2 < length text → is_one_of words text ≡ false
 no_long [] text all long = refl
 no_long (word ∷ words) text all long = or_from _ _
-    (false_from_ne_true _ (λ h. omega (arith, spells_long word text h, all.0)))
+    (false_from_ne_true _ (λ (h : spells word text ≡ true). omega (arith, spells_long word text h, all.0)))
     (no_long words text all.1 long)
 
 no_long_symbol : (text : List ℕ) → 2 < length text → is_symbol text ≡ false
