@@ -5,3 +5,7 @@ pub mod PartLaws
 pub mod PieceLaws
 pub mod LoopLaws
 pub mod KindLaws
+pub mod LexLaws
+pub mod AsciiLaws
+pub mod HeadingLaws
+pub mod SourceLaws

@@ -2,6 +2,15 @@
 #![tactic(auto)]
 
 mod characters;
+mod headings;
+mod lexer;
 mod marks;
 mod piece;
 mod reach;
+mod source;
+mod token;
+
+pub use headings::declaration;
+pub use lexer::Lexer;
+pub use source::{MAX_SOURCE, tokens};
+pub use token::{Next, Token};
