@@ -5,3 +5,5 @@ pub mod Spelled
 pub mod Fronts
 pub mod Viable
 pub mod Unique
+pub mod Lexemes
+pub mod Rules

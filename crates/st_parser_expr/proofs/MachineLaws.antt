@@ -4,7 +4,7 @@ use Rattle.st_tree.specs.declared.terminal.Terminal.{Terminal}
 use Rattle.st_tree.specs.declared.terminal.Terminal.TheVariants as x
 use Rattle.st_tree.specs.Grammar.{Lexeme, sign, spelled, NotNext}
 use Rattle.st_tree.specs.Reads.{no_marks}
-use Rattle.st_parser_expr.specs.Machine.{calls, reference_end, arguments_end, operand, more_tails, selecting, behind_name, root_next, name_next, close_next, behind_ref, behind_kind, literal_next, digits_next, comma_or_bracket, first_argument, argument_next, behind_argument, comma_or_close, State, on_selector, on_call, on_hash, on_naming, on_named, on_operand, on_argument, on_first, advance, accepts, go_on, machine, NoOperator, IsNoStep, NoStep, IsNoNaming, NoNaming}
+use Rattle.st_parser_expr.specs.Machine.{calls, reference_end, arguments_end, operand, more_tails, selecting, behind_name, root_next, name_next, close_next, behind_ref, behind_kind, literal_next, digits_next, comma_or_bracket, first_argument, argument_next, behind_argument, comma_or_close, State, on_selector, on_call, on_hash, on_naming, on_named, on_operand, on_argument, on_first, advance, accepts, go_on, machine, NoOperator, IsNoStep, NoStep, IsNoSelector, NoSelector, IsNoNaming, NoNaming}
 
 -- ---- one token
 
@@ -21,27 +21,51 @@ pub machine-more_tails : (k : State) (ts : List Lexeme) → NoOperator ts → ma
 machine-more_tails k [] h = refl
 machine-more_tails k (t ∷ ts) h = rw h refl
 
-on_selector-other : (t : Terminal) (k : State) (other : Option State) → IsNoStep t → on_selector t k other ≡ other
+on_selector-other : (t : Terminal) (k : State) (other : Option State) → IsNoSelector t → on_selector t k other ≡ other
 on_selector-other x.Dot k other h = absurd h
 on_selector-other x.OpenBracket k other h = absurd h
 on_selector-other x.Caret k other h = absurd h
 on_selector-other _ k other h = refl
 
-on_call-other : (t : Terminal) (k : State) (other : Option State) → IsNoStep t → on_call t k other ≡ other
-on_call-other x.Open k other h = absurd h
+on_call-other : (t : Terminal) (k : State) (other : Option State) → (t ≡ x.Open → ⊥) → on_call t k other ≡ other
+on_call-other x.Open k other h = absurd (h refl)
 on_call-other _ k other h = refl
 
-pub machine-calls : (k : State) (ts : List Lexeme) → NoStep ts → machine (selecting calls ∷ k) ts ≡ machine k ts
-machine-calls k [] h = refl
-machine-calls k (t ∷ ts) h =
+pub machine-calls : (k : State) (ts : List Lexeme) → NoSelector ts → NotNext x.Open ts → machine (selecting calls ∷ k) ts ≡ machine k ts
+machine-calls k [] h o = refl
+machine-calls k (t ∷ ts) h o =
     ap (λ o. go_on o (λ k'. machine k' ts) (accepts k, suc (length ts)))
-    (on_selector-other t.terminal (selecting calls ∷ k) (on_call t.terminal k (advance k t.terminal)) h ∙ on_call-other t.terminal k (advance k t.terminal) h)
+    (on_selector-other t.terminal (selecting calls ∷ k) (on_call t.terminal k (advance k t.terminal)) h ∙ on_call-other t.terminal k (advance k t.terminal) o)
 
-pub machine-sent : (k : State) (ts : List Lexeme) → NoStep ts → machine (selecting arguments_end ∷ k) ts ≡ machine (comma_or_close ∷ k) ts
+pub machine-sent : (k : State) (ts : List Lexeme) → NoSelector ts → machine (selecting arguments_end ∷ k) ts ≡ machine (comma_or_close ∷ k) ts
 machine-sent k [] h = refl
 machine-sent k (t ∷ ts) h =
     ap (λ o. go_on o (λ k'. machine k' ts) (accepts (comma_or_close ∷ k), suc (length ts)))
     (on_selector-other t.terminal (selecting arguments_end ∷ k) (advance (comma_or_close ∷ k) t.terminal) h)
+
+pub machine-referred : (k : State) (ts : List Lexeme) → NoSelector ts → machine (selecting reference_end ∷ k) ts ≡ machine (close_next ∷ k) ts
+machine-referred k [] h = refl
+machine-referred k (t ∷ ts) h =
+    ap (λ o. go_on o (λ k'. machine k' ts) (accepts (close_next ∷ k), suc (length ts)))
+    (on_selector-other t.terminal (selecting reference_end ∷ k) (advance (close_next ∷ k) t.terminal) h)
+
+no_step-selector : (t : Terminal) → IsNoStep t → IsNoSelector t
+no_step-selector x.Dot h = h
+no_step-selector x.OpenBracket h = h
+no_step-selector x.Caret h = h
+no_step-selector _ h = tt
+
+pub no_selector : (ts : List Lexeme) → NoStep ts → NoSelector ts
+no_selector [] h = tt
+no_selector (t ∷ ts) h = no_step-selector t.terminal h
+
+no_step-open : (t : Terminal) → IsNoStep t → t ≡ x.Open → ⊥
+no_step-open x.Open h e = h
+no_step-open _ h e = cc
+
+pub no_open : (ts : List Lexeme) → NoStep ts → NotNext x.Open ts
+no_open [] h = tt
+no_open (t ∷ ts) h = no_step-open t.terminal h
 
 on_hash-other : (t : Terminal) (k : State) (other : Option State) → (t ≡ x.Hash → ⊥) → on_hash t k other ≡ other
 on_hash-other x.Hash k other h = absurd (h refl)

@@ -11,7 +11,7 @@ use Rattle.st_tree.specs.declared.expression.Root.TheVariants as roots
 use Rattle.st_tree.specs.Plain.{Expression, int, typed, time, true_value, false_value, null, place, call, enumerator, ref, now, paren, complement, minus, chain, Expressions, no_expressions, expression_then, Selector, field, index, target, Selectors, no_selectors, selector_then, Argument, positional, input, output, Arguments, no_arguments, argument_then, Tails, no_tails, tail_then}
 use Rattle.st_tree.specs.Grammar.{Lexeme, sign, spelled, word, NotNext, operator_of, operator_at, literal, root, expression, first_tail, tails, selectors, selector, first_expression, more_expressions, arguments, more_arguments, argument}
 use Rattle.st_parser_expr.specs.Machine.{Follow, calls, reference_end, arguments_end, operand, more_tails, selecting, behind_name, root_next, name_next, close_next, behind_ref, behind_kind, literal_next, digits_next, comma_or_bracket, first_argument, argument_next, behind_argument, comma_or_close, State, machine, NoOperator, IsNoStep, NoStep, IsNoNaming, NoNaming}
-use Rattle.st_parser_expr.proofs.MachineLaws.{on-sign, signed, machine-more_tails, machine-calls, machine-sent, machine-behind_name, Positional, machine-argument, machine-first_argument}
+use Rattle.st_parser_expr.proofs.MachineLaws.{on-sign, signed, no_selector, no_open, machine-more_tails, machine-calls, machine-sent, machine-behind_name, Positional, machine-argument, machine-first_argument}
 
 -- ---- how phrases begin
 
@@ -204,7 +204,7 @@ mutual
   passes-expression (null line) l ts rest k (a, h) ok = on-sign (operand ∷ more_tails ∷ k) x.Null ts rest h
   passes-expression (place line r s) l ts rest k (a, (m, h, hs)) ok =
       passes-begun r ts m (more_tails ∷ k) h (not_hash-selectors s m rest hs (NoStep-not_hash rest ok))
-      ∙ passes-selectors s calls m rest (more_tails ∷ k) hs ∙ machine-calls (more_tails ∷ k) rest ok
+      ∙ passes-selectors s calls m rest (more_tails ∷ k) hs ∙ machine-calls (more_tails ∷ k) rest (no_selector rest ok) (no_open rest ok)
   passes-expression (call line r s xs) l ts rest k (a, (m, h, (m', hs, (m'', o, (m3, ha, c))))) ok =
       passes-begun r ts m (more_tails ∷ k) h (not_hash-selectors s m m' hs (not-sign x.Open x.Hash m' m'' (λ q. cc) o))
       ∙ passes-selectors s calls m m' (more_tails ∷ k) hs
@@ -290,4 +290,4 @@ mutual
       ∙ passes-expression e 0 m' rest (comma_or_close ∷ k) he step ∙ machine-more_tails (comma_or_close ∷ k) rest operator
   passes-argument (output line n later r s) ts rest k (m, (a, h), (m', sends, (b, (m'', hr, hs)))) step operator naming =
       on-sign (argument_next ∷ k) x.Word ts m (signed x.Word n ts m h) ∙ on-sign (behind_argument ∷ k) x.Sends m m' sends
-      ∙ passes-root r m' m'' (selecting arguments_end ∷ k) hr ∙ passes-selectors s arguments_end m'' rest k hs ∙ machine-sent k rest step
+      ∙ passes-root r m' m'' (selecting arguments_end ∷ k) hr ∙ passes-selectors s arguments_end m'' rest k hs ∙ machine-sent k rest (no_selector rest step)

@@ -12,7 +12,7 @@ use Rattle.st_tree.specs.declared.expression.Root.TheVariants as roots
 use Rattle.st_tree.specs.Plain.{Expression, int, typed, time, true_value, false_value, null, place, call, enumerator, ref, now, paren, complement, minus, chain, Expressions, no_expressions, expression_then, Selector, field, index, target, Selectors, no_selectors, selector_then, Argument, positional, input, output, Arguments, no_arguments, argument_then, Tails, no_tails, tail_then}
 use Rattle.st_tree.specs.Grammar.{Lexeme, Phrase, At, NotNext, lexeme, sign, spelled, word, operator_of, level, operator_at, literal, root, expression, first_tail, tails, selectors, selector, first_expression, more_expressions, arguments, more_arguments, argument}
 use Rattle.st_parser_expr.specs.Machine.{NoOperator, NoStep, IsNoStep, NoSelector, IsNoSelector, NoNaming, Looser}
-use Rattle.st_parser_expr.proofs.MachineLaws.{signed, Positional}
+use Rattle.st_parser_expr.proofs.MachineLaws.{signed, no_selector, Positional}
 use Rattle.st_parser_expr.proofs.Groups.{lt_or_le, level-small}
 use Rattle.st_parser_expr.proofs.Passes.{is_sign, no_step-sign, first_tail-tails, NoStep-tails, NoStep-operator, NoStep-not_hash, not_hash-selectors, not_close-argument, positional-expression, rest-no_step, rest-no_naming}
 
@@ -228,16 +228,6 @@ OneList xs = (xs' : Arguments ℕ) (ts m r m' r' : List Lexeme) → arguments xs
 
 abbrev OneExpression : Expression ℕ → Type 0
 OneExpression e = (l : ℕ) (e' : Expression ℕ) (ts r r' : List Lexeme) → expression e l ts r → expression e' l ts r' → Closed l r → Closed l r' → Same e e' r r'
-
-no_step-selector : (t : Terminal) → IsNoStep t → IsNoSelector t
-no_step-selector x.Dot h = h
-no_step-selector x.OpenBracket h = h
-no_step-selector x.Caret h = h
-no_step-selector _ h = tt
-
-no_selector : (r : List Lexeme) → NoStep r → NoSelector r
-no_selector [] h = tt
-no_selector (t ∷ ts) h = no_step-selector t.terminal h
 
 selector-sign : (s : Terminal) (ts rest : List Lexeme) → IsNoSelector s → sign s ts rest → NoSelector ts
 selector-sign s ts rest h (t, is, w) = rw w (is_sign IsNoSelector s t.terminal is h)
