@@ -7,3 +7,6 @@ pub mod Viable
 pub mod Unique
 pub mod Lexemes
 pub mod Rules
+pub mod Top
+pub mod Limit
+pub mod NestingLaws

@@ -4,7 +4,7 @@ use Rattle.st_tree.specs.declared.terminal.Terminal.{Terminal}
 use Rattle.st_tree.specs.declared.terminal.Terminal.TheVariants as x
 use Rattle.st_tree.specs.Grammar.{Lexeme, sign, spelled, NotNext}
 use Rattle.st_tree.specs.Reads.{no_marks}
-use Rattle.st_parser_expr.specs.Machine.{calls, reference_end, arguments_end, operand, more_tails, selecting, behind_name, root_next, name_next, close_next, behind_ref, behind_kind, literal_next, digits_next, comma_or_bracket, first_argument, argument_next, behind_argument, comma_or_close, State, on_selector, on_call, on_hash, on_naming, on_named, on_operand, on_argument, on_first, advance, accepts, go_on, machine, NoOperator, IsNoStep, NoStep, IsNoSelector, NoSelector, IsNoNaming, NoNaming}
+use Rattle.st_parser_expr.specs.Machine.{calls, reference_end, arguments_end, operand, more_tails, selecting, behind_name, root_next, name_next, close_next, behind_ref, behind_kind, literal_next, digits_next, comma_or_bracket, first_argument, argument_next, behind_argument, comma_or_close, State, on_selector, on_call, on_hash, on_naming, on_operand, on_argument, on_first, advance, accepts, go_on, machine, NoOperator, IsNoStep, NoStep, IsNoSelector, NoSelector, IsNoNaming, NoNaming}
 
 -- ---- one token
 

@@ -14,12 +14,11 @@ use Rattle.st_tree.specs.declared.expression.Argument.{Argument as CodeArgument}
 use Rattle.st_tree.specs.declared.expression.Tail.{Tail}
 use Rattle.st_tree.specs.ExpressionView.{expression_of, selector_of, argument_of, tail_of, expressions_of, selectors_of, arguments_of, tails_of, tail_of-note, tail_of-operator, tail_of-operand}
 use Rattle.st_tree.specs.Plain.{Expression, int, typed, time, true_value, false_value, null, place, call, enumerator, ref, now, paren, complement, minus, chain, Expressions, no_expressions, expression_then, Selector, field, index, target, Selectors, no_selectors, selector_then, Argument, positional, input, output, Arguments, no_arguments, argument_then, Tails, no_tails, tail_then}
-use Rattle.st_tree.specs.Grammar.{Lexeme, Phrase, At, NotNext, ◌⋆◌, lexeme, sign, spelled, word, operator_of, level, operator_at, literal, root, expression, first_tail, tails, selectors, selector, first_expression, more_expressions, arguments, more_arguments, argument}
+use Rattle.st_tree.specs.Grammar.{Lexeme, At, NotNext, ◌⋆◌, lexeme, sign, spelled, word, operator_of, level, operator_at, literal, root, expression, first_tail, tails, selectors, selector, first_expression, more_expressions, arguments, more_arguments, argument}
 use Rattle.st_parser_expr.specs.declared.stop.Stop.{Stop}
 use Rattle.st_parser_expr.specs.declared.stop.Stop.TheVariants.{Left, NoMemory}
-use Rattle.st_parser_expr.specs.declared.stop.Naming.{Naming}
 use Rattle.st_parser_expr.specs.declared.stop.Naming.TheVariants as naming
-use Rattle.st_parser_expr.specs.Machine.{Follow, calls, reference_end, arguments_end, operand, more_tails, selecting, behind_name, root_next, close_next, behind_ref, behind_kind, comma_or_bracket, first_argument, argument_next, behind_argument, comma_or_close, State, go_on, on_root, machine, NoOperator, NoSelector, NoNaming, IsNoNaming, Looser}
+use Rattle.st_parser_expr.specs.Machine.{Follow, calls, reference_end, arguments_end, operand, more_tails, selecting, behind_name, root_next, behind_kind, comma_or_bracket, first_argument, argument_next, behind_argument, comma_or_close, State, go_on, on_root, machine, NoOperator, NoSelector, NoNaming, IsNoNaming, Looser}
 use Rattle.st_parser_expr.specs.Promises.{next_terminal, TextTaken, LineOf, if_level, next_operator_at, is_hash, is_enumerator_by, is_enumerator, naming_behind, naming_by, naming_of, is_root, Fails, Passes, Reads, Selects, SelectFails, same, for_expr, for_operand, for_tails, for_selectors, for_indices, for_more_indices, for_arguments, for_argument, for_more, for_root, for_name, for_literal, for_close, for_reference}
 use Rattle.st_parser_expr.proofs.MachineLaws.{on-sign, signed, machine-more_tails, machine-calls, machine-sent, machine-referred, machine-behind_name, Positional, machine-argument, machine-first_argument}
 use Rattle.st_parser_expr.proofs.Passes.{machine-operator}

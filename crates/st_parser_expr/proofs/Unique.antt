@@ -10,11 +10,11 @@ use Rattle.st_tree.specs.declared.expression.Literal.TheVariants as literals
 use Rattle.st_tree.specs.declared.expression.Root.{Root}
 use Rattle.st_tree.specs.declared.expression.Root.TheVariants as roots
 use Rattle.st_tree.specs.Plain.{Expression, int, typed, time, true_value, false_value, null, place, call, enumerator, ref, now, paren, complement, minus, chain, Expressions, no_expressions, expression_then, Selector, field, index, target, Selectors, no_selectors, selector_then, Argument, positional, input, output, Arguments, no_arguments, argument_then, Tails, no_tails, tail_then}
-use Rattle.st_tree.specs.Grammar.{Lexeme, Phrase, At, NotNext, lexeme, sign, spelled, word, operator_of, level, operator_at, literal, root, expression, first_tail, tails, selectors, selector, first_expression, more_expressions, arguments, more_arguments, argument}
+use Rattle.st_tree.specs.Grammar.{Lexeme, At, NotNext, lexeme, sign, spelled, word, operator_of, level, operator_at, literal, root, expression, first_tail, tails, selectors, selector, first_expression, more_expressions, arguments, more_arguments, argument}
 use Rattle.st_parser_expr.specs.Machine.{NoOperator, NoStep, IsNoStep, NoSelector, IsNoSelector, NoNaming, Looser}
-use Rattle.st_parser_expr.proofs.MachineLaws.{signed, no_selector, Positional}
+use Rattle.st_parser_expr.proofs.MachineLaws.{signed, no_selector}
 use Rattle.st_parser_expr.proofs.Groups.{lt_or_le, level-small}
-use Rattle.st_parser_expr.proofs.Passes.{is_sign, no_step-sign, first_tail-tails, NoStep-tails, NoStep-operator, NoStep-not_hash, not_hash-selectors, not_close-argument, positional-expression, rest-no_step, rest-no_naming}
+use Rattle.st_parser_expr.proofs.Passes.{is_sign, no_step-sign, first_tail-tails, NoStep-tails, NoStep-not_hash, not_hash-selectors, not_close-argument, positional-expression, rest-no_naming}
 
 -- ---- single lexemes
 

@@ -1,3 +1,4 @@
 pub mod Beginnings
 pub mod Machine
 pub mod Promises
+pub mod Nesting

@@ -2,11 +2,15 @@
 #![tactic(auto)]
 
 mod cursor;
+mod depth;
 mod expr;
 mod law;
 mod leaf;
 mod lexeme;
+mod parse;
 mod stop;
 
 pub use law::one_expression;
 pub use lexeme::Lexeme;
+pub use parse::parse_expr;
+pub use stop::ParseError;
