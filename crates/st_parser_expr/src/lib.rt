@@ -9,8 +9,10 @@ mod leaf;
 mod lexeme;
 mod parse;
 mod stop;
+#[cfg(test)]
+mod tests;
 
 pub use law::one_expression;
-pub use lexeme::Lexeme;
+pub use lexeme::{Lexeme, unmarked_lexemes};
 pub use parse::parse_expr;
 pub use stop::ParseError;
