@@ -14,3 +14,4 @@ pub mod Grammar
 pub mod Declarations
 pub mod Reads
 pub use Rattle.plc_text.specs.declared.lines.Span
+pub mod Rows

@@ -2,6 +2,7 @@
 //! node has a note: its line in the text as it is written, or what is found out about it in a checked program.
 #![tactic(auto)]
 
+mod classify;
 mod configuration;
 mod declaration;
 mod expression;
@@ -18,6 +19,7 @@ mod token;
 mod type_spec;
 mod unit;
 
+pub use classify::terminal_of;
 pub use configuration::{Configuration, InstanceSpec, Resource, Setting, SettingValue, TaskSpec};
 pub use declaration::{
     ClassDecl, ClassSort, FieldGroup, FunctionDecl, InterfaceDecl, Item, Member, Method, Modifier,
