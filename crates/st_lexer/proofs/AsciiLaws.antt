@@ -1,13 +1,14 @@
 -- Tokens are of ASCII characters.
-use Rattle.std.proofs.Common.{◌≡◌, ℕ, zero, suc, ◌+◌, ◌-◌, ◌<◌, ◌≤◌, Bool, true, false, ◌&&◌, ◌||◌, not, List, [], ◌∷◌, length, take, drop, refl, sym, ap, subst, ◌∙◌, inl, inr, nat_eq, nat_lt, cond, codes, Option, None, Some, length-drop, arith}
+use Rattle.std.proofs.Common.{◌≡◌, ℕ, zero, suc, ◌-◌, ◌≤◌, Bool, true, false, ◌&&◌, ◌||◌, List, [], ◌∷◌, length, take, drop, refl, sym, ap, ◌∙◌, inl, inr, nat_eq, nat_lt, codes, None, Some, length-drop, arith}
 use Rattle.std.proofs.lemmas.Bool.{and_parts, and_from, or_parts, or_cases, both_ways, cases_Bool, cond-true, cond-false, ltb-true, eqb-true}
 use Rattle.std.proofs.lemmas.Bool.Decides.{nat_tests}
+use Rattle.std.proofs.lemmas.List.Sums.{take_while-cons}
 use Rattle.std.proofs.lemmas.Str.Ascii.{IsAscii-nil, IsAscii-cons}
 use Rattle.std.specs.Str.{IsAscii}
 use Rattle.std.specs.Char.{to_ascii_uppercase}
-use Rattle.std.specs.List.{list_all, list_any, take_while, prefix_len}
+use Rattle.std.specs.List.{list_all, take_while}
 use Rattle.st_tree.specs.declared.token.TokenKind.{TokenKind}
-use Rattle.st_tree.specs.declared.token.TokenKind.TheVariants.{Word, Keyword, Int, Time, Address, Symbol, Mark}
+use Rattle.st_tree.specs.declared.token.TokenKind.TheVariants.{Mark}
 use Rattle.st_tree.specs.Words.{is_one_of, spells, opens, begins, behind_all, is_blank, is_digit, is_binary_digit, is_octal_digit, is_hexadecimal_digit, is_letter, is_word_character, is_word, is_number}
 use Rattle.st_tree.specs.Pieces.{is_white_space, is_comment, is_pragma, ends_first, are_spaced, are_split, is_bit_place, is_int, begins_part, behind_part, is_underscore, behind_underscore, is_empty, are_parts, units, is_time, is_point, is_location, is_address, opens_one_of, is_whole_word, is_whole_symbol, is_symbol, symbols, is_piece}
 use Rattle.st_tree.specs.Marks.{inside, behind_blanks, is_attribute, is_no_copy, is_init_on_change, behind_renamed, is_renamed, is_mark}
@@ -313,3 +314,14 @@ token_low text rest kind h k = elim (cases_Bool (is_white_space text || is_comme
 
 pub token_ascii : (text rest : List ℕ) (kind : TokenKind) → is_piece text rest ≡ true → piece_kind text ≡ Some kind → IsAscii text
 token_ascii text rest kind h k = ascii_from_low text (token_low text rest kind h k)
+
+taken_low : (test : ℕ → Bool) → ((c : ℕ) → test c ≡ true → nat_lt c 128 ≡ true) → (text : List ℕ) → low (take_while test text) ≡ true
+taken_low test each [] = refl
+taken_low test each (c ∷ cs) = elim (cases_Bool (test c)) [
+  | inl holds ↦ ap low (take_while-cons test c cs ∙ cond-true (test c) (c ∷ take_while test cs) [] holds) ∙ and_from _ _ (each c holds) (taken_low test each cs)
+  | inr fails ↦ ap low (take_while-cons test c cs ∙ cond-false (test c) (c ∷ take_while test cs) [] fails)
+]
+
+-- the letters and digits at the front
+pub word_front_ascii : (text : List ℕ) → IsAscii (take_while is_word_character text)
+word_front_ascii text = ascii_from_low _ (taken_low is_word_character character_low text)

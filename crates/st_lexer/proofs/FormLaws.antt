@@ -1,15 +1,15 @@
 -- Fronts of each form.
-use Rattle.std.proofs.Common.{◌≡◌, ℕ, zero, suc, ◌+◌, ◌-◌, ◌<◌, ◌≤◌, Bool, true, false, ◌&&◌, ◌||◌, not, List, [], ◌∷◌, length, take, drop, refl, sym, ap, subst, ◌∙◌, inl, inr, map, nat_eq, cond, codes, max, length-take, length-drop, arith}
-use Rattle.std.proofs.lemmas.Bool.{and_parts, and_from, and_left, and_right, both_ways, cases_Bool, cond-true, cond-false, or_left, false_from_ne_true, and_cases, eq-eqb, ne_eqb, not-true, not_from_true, not_from_false}
+use Rattle.std.proofs.Common.{◌≡◌, ℕ, zero, suc, ◌+◌, ◌<◌, ◌≤◌, Bool, true, false, ◌&&◌, not, List, [], ◌∷◌, length, take, drop, refl, sym, ap, ◌∙◌, inl, inr, nat_eq, cond, codes, arith}
+use Rattle.std.proofs.lemmas.Bool.{and_left, and_right, cases_Bool, cond-true, cond-false, and_cases, ne_eqb}
 use Rattle.std.proofs.lemmas.Bool.Decides.{nat_tests}
 use Rattle.std.specs.List.{list_all, prefix_len}
 use Rattle.std.specs.Char.{to_ascii_uppercase}
-use Rattle.st_tree.specs.Words.{spells, opens, begins, is_blank, is_digit, is_binary_digit, is_octal_digit, is_hexadecimal_digit, is_letter, is_word_character, is_word, is_number}
-use Rattle.st_tree.specs.Pieces.{is_white_space, ends_first, is_comment, is_no_line_feed, is_pragma, are_spaced, are_split, is_bit_place, is_int, is_time, is_address, is_location, opens_one_of, is_underscore, is_point, are_parts, units}
+use Rattle.st_tree.specs.Words.{opens, is_blank, is_digit, is_binary_digit, is_octal_digit, is_hexadecimal_digit, is_number}
+use Rattle.st_tree.specs.Pieces.{is_white_space, ends_first, is_comment, is_no_line_feed, is_pragma, are_spaced, are_split, is_bit_place, is_int, is_time, is_address, is_location, opens_one_of, is_point, are_parts, units}
 use Rattle.st_lexer.specs.Fronts.{IsLongest}
-use Rattle.st_lexer.specs.Reach.{with_head, closing_from, white_len, block_len, line_len, comment_len, pragma_len, digits_len, based_len, int_len, bit_len, wide_len, bit_with_width_len, location_len, address_len, parts_len, timed_len, time_len}
+use Rattle.st_lexer.specs.Reach.{with_head, closing_from, white_len, block_len, line_len, comment_len, pragma_len, based_len, int_len, bit_len, wide_len, bit_with_width_len, location_len, address_len, timed_len, time_len}
 use Rattle.st_lexer.proofs.HeadLaws.{with_head_some, IsHead, word_head, either_head, no_head, front_without, front_any, front_some, either}
-use Rattle.st_lexer.proofs.RunLaws.{with_heads, none, nil_none, cons_none, cons_some, run_front, number_front, closing_front, digits_front}
+use Rattle.st_lexer.proofs.RunLaws.{with_heads, nil_none, cons_none, cons_some, run_front, number_front, closing_front, digits_front}
 use Rattle.st_lexer.proofs.PartLaws.{parts_front}
 
 -- white space

@@ -1,12 +1,10 @@
 -- Fronts with a head.
-use Rattle.std.proofs.Common.{◌≡◌, ℕ, zero, suc, ◌+◌, ◌-◌, ◌<◌, ◌≤◌, Bool, true, false, ◌&&◌, ◌||◌, List, [], ◌∷◌, length, take, drop, refl, sym, ap, subst, ◌∙◌, inl, inr, map, max, min, nat_eq, length-take, length-drop, arith}
-use Rattle.std.proofs.lemmas.List.{take-take, take_all, drop-take, drop_all, length-map}
-use Rattle.std.proofs.lemmas.Bool.{and_parts, and_from, and_left, and_right, or_from, or_left, or_right, both_ways, false_from_ne_true, cases_lt, or_cases, cond-false, ne_eqb}
+use Rattle.std.proofs.Common.{◌≡◌, ℕ, zero, suc, ◌+◌, ◌-◌, ◌<◌, ◌≤◌, Bool, true, false, ◌&&◌, ◌||◌, List, [], length, take, drop, refl, sym, ap, ◌∙◌, inl, inr, max, nat_eq, length-take, length-drop, arith}
+use Rattle.std.proofs.lemmas.List.{take-take, drop-take, drop_all, length-map}
+use Rattle.std.proofs.lemmas.Bool.{and_from, and_left, and_right, or_from, or_left, or_right, both_ways, false_from_ne_true, cases_lt, or_cases, cond-false, ne_eqb}
 use Rattle.std.specs.Char.{to_ascii_uppercase}
-use Rattle.std.specs.List.{list_any}
 use lib.Pointwise.{pointwise_long}
 use Rattle.st_tree.specs.Words.{spells, opens}
-use Rattle.st_tree.specs.Pieces.{opens_one_of}
 use Rattle.st_lexer.specs.Fronts.{IsLongest, IsLongestFront}
 use Rattle.st_lexer.specs.Reach.{with_head}
 

@@ -1,6 +1,6 @@
 -- The declaration, told by going once through the tokens.
 use Rattle.std.proofs.Common.{◌≡◌, ℕ, Bool, true, false, ◌&&◌, not, List, [], ◌∷◌, refl, sym, ap, ◌∙◌, inl, inr, cond, codes, filter, arith}
-use Rattle.std.proofs.lemmas.Bool.{and_parts, and_left, and_right, both_ways, cases_Bool, cond-true, cond-false, not-true, not_from_true, not_from_false}
+use Rattle.std.proofs.lemmas.Bool.{and_parts, and_left, and_right, both_ways, cases_Bool, cond-true, cond-false, not_from_true, not_from_false}
 use Rattle.std.specs.Str.{IsUtf8}
 use Rattle.std.proofs.lemmas.Str.Ascii.{IsAscii-nil, IsAscii-cons}
 use Rattle.std.proofs.lemmas.Str.{IsUtf8-from_ascii}
@@ -8,7 +8,7 @@ use Rattle.plc_text.specs.Text.{folded}
 use Rattle.st_tree.specs.declared.token.TokenKind.{TokenKind}
 use Rattle.st_tree.specs.declared.token.TokenKind.TheVariants.{Word, Keyword, Int, Time, Address, Symbol, Mark}
 use Rattle.st_tree.specs.Tokens.{Token}
-use Rattle.st_tree.specs.Headings.{is_word_kind, is_keyword_kind, is_mark_kind, is_heading, is_modifier, name_behind, last_name, is_no_mark, declaration_before}
+use Rattle.st_tree.specs.Headings.{is_word_kind, is_keyword_kind, is_mark_kind, is_heading, is_modifier, name_behind, last_name, is_no_mark}
 
 -- the name so far, and whether the name of a heading is still to come
 abbrev pub scan : List ℕ → Bool → List Token → List ℕ

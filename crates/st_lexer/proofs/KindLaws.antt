@@ -1,19 +1,16 @@
 -- What the longest piece is.
-use Rattle.std.proofs.Common.{◌≡◌, ℕ, zero, suc, ◌+◌, ◌-◌, ◌<◌, ◌≤◌, Bool, true, false, ◌&&◌, ◌||◌, not, List, [], ◌∷◌, ◌++◌, length, take, drop, refl, sym, ap, subst, ◌∙◌, inl, inr, nat_eq, cond, codes, max, min, Option, None, Some, length-take, length-drop, arith}
-use Rattle.std.proofs.lemmas.Bool.{and_parts, and_from, and_left, and_right, or_from, or_left, or_right, or_parts, or_cases, both_ways, cases_Bool, cases_lt, cases_eq, cases_order, cond-true, cond-false, false_from_ne_true, eqb-true, eqb-false, ne_eqb, eq-eqb, not-true, not-false, not_from_true, not_from_false}
+use Rattle.std.proofs.Common.{◌≡◌, ℕ, suc, ◌<◌, ◌≤◌, Bool, true, false, ◌&&◌, ◌||◌, List, [], ◌∷◌, length, take, drop, refl, sym, ap, ◌∙◌, inl, inr, nat_eq, cond, Some, arith}
+use Rattle.std.proofs.lemmas.Bool.{and_parts, and_left, or_left, or_parts, or_cases, both_ways, cases_Bool, cases_lt, cases_eq, cond-true, cond-false, ne_eqb, eq-eqb}
 use Rattle.std.proofs.lemmas.Bool.Decides.{nat_tests}
 use Rattle.std.proofs.lemmas.List.{length-take-le}
 use Rattle.std.specs.Char.{to_ascii_uppercase}
-use Rattle.std.specs.List.{list_all, list_any, prefix_len, AllByRecursion}
-use Rattle.st_tree.specs.declared.token.TokenKind.{TokenKind}
-use Rattle.st_tree.specs.declared.token.TokenKind.TheVariants.{Word, Keyword, Int, Time, Address, Symbol, Mark}
-use Rattle.st_tree.specs.Words.{is_one_of, spells, opens, begins, is_keyword, is_letter, is_word, is_word_character}
-use Rattle.st_tree.specs.Pieces.{is_white_space, is_comment, is_pragma, is_int, is_time, is_address, is_whole_word, is_whole_symbol, is_symbol, symbols, is_piece, ends_first}
-use Rattle.st_tree.specs.Marks.{is_mark}
+use Rattle.std.specs.List.{list_all, prefix_len, AllByRecursion}
+use Rattle.st_tree.specs.declared.token.TokenKind.TheVariants.{Word, Keyword, Symbol}
+use Rattle.st_tree.specs.Words.{is_one_of, spells, begins, is_keyword, is_letter, is_word, is_word_character}
+use Rattle.st_tree.specs.Pieces.{is_white_space, is_comment, is_pragma, is_int, is_time, is_address, is_whole_word, is_whole_symbol, is_symbol, symbols, is_piece}
 use Rattle.st_tree.specs.Tokens.{piece_kind}
-use Rattle.st_lexer.specs.Fronts.{IsLongest, IsLongestFront}
-use Rattle.st_lexer.specs.Reach.{white_len, comment_len, pragma_len, int_len, time_len, address_len, word_len, symbol_len, reaches_of, longest_of, kind_of}
-use Rattle.st_lexer.proofs.HeadLaws.{opens_long}
+use Rattle.st_lexer.specs.Fronts.{IsLongest}
+use Rattle.st_lexer.specs.Reach.{white_len, comment_len, pragma_len, int_len, time_len, address_len, word_len, reaches_of, longest_of, kind_of}
 use Rattle.st_lexer.proofs.FormLaws.{white_front, comment_front, pragma_front, int_front, time_front, address_front}
 use Rattle.st_lexer.proofs.PieceLaws.{whole_word_front, piece_front}
 
@@ -134,20 +131,6 @@ whole_word (c ∷ cs) h =
     run_whole is_word_character (c ∷ cs)
     ∙ ap (λ b. b && list_all is_word_character cs) (or_left _ _ h)
     ∙ sym (ap (λ b. b && list_all is_word_character cs) h)
-
--- a pragma has two braces
-
-pragma_has_two : (text : List ℕ) → is_pragma text ≡ true → 2 ≤ length text
-unfolding is_pragma
-pragma_has_two [] h = absurd (both_ways false refl h)
-pragma_has_two (c ∷ []) h = absurd (both_ways false refl (and_parts (opens (codes "{") (c ∷ [])) false h).1)
-pragma_has_two (c ∷ d ∷ cs) h = omega arith
-
-pub pragma_long : (text : List ℕ) (n : ℕ) → 0 < n → n ≤ length text → pragma_len text ≡ length (take n text) → 2 ≤ length (take n text)
-pragma_long text n some within e =
-    let same : pragma_len text ≡ n = e ∙ length-take-le n text within in
-    let h = (pragma_front text).passes (omega arith) in
-    pragma_has_two (take n text) (rw same at h)
 
 conds : {X : Type 0} (s t : Bool) (x y z : X) → s ≡ t → (t ≡ false → y ≡ z) → cond s x y ≡ cond t x z
 conds s true x y z e h = ap (λ b. cond b x y) e

@@ -1,11 +1,10 @@
 -- What the lexer's loops and calls give.
-use Rattle.std.proofs.Common.{◌≡◌, ℕ, ◌+◌, ◌-◌, ◌<◌, ◌≤◌, Bool, true, false, List, [], ◌∷◌, length, take, drop, get_or, refl, sym, ap, ◌∙◌, cond, nat_eq, codes, ◌&&◌, max, length-drop, arith}
-use Rattle.std.proofs.lemmas.List.{at_drop_more, drop_more, take_rest}
-use Rattle.std.proofs.lemmas.Bool.{cond-true, cond-false, eq-eqb, ne_eqb}
-use Rattle.st_tree.specs.Words.{opens, begins}
-use Rattle.st_tree.specs.Pieces.{units, is_underscore}
-use Rattle.st_tree.specs.Marks.{inside, behind_blanks, is_renamed}
-use Rattle.st_lexer.specs.Reach.{names, with_head, closing_from, part_len, underscore_len, parts_len, timed_len}
+use Rattle.std.proofs.Common.{◌≡◌, ℕ, ◌+◌, ◌-◌, ◌<◌, true, false, List, ◌∷◌, length, take, drop, get_or, sym, ap, ◌∙◌, cond, nat_eq}
+use Rattle.std.proofs.lemmas.List.{drop_more, take_rest}
+use Rattle.std.proofs.lemmas.Bool.{cond-true, cond-false, ne_eqb}
+use Rattle.st_tree.specs.Words.{opens}
+use Rattle.st_tree.specs.Pieces.{units}
+use Rattle.st_lexer.specs.Reach.{with_head, closing_from, part_len, underscore_len, parts_len, timed_len}
 
 pub closing_step : (mark text : List ℕ) (i x : ℕ) → i < length text → opens mark (take (length text - i) (drop i text)) ≡ false → closing_from mark i (drop i text) ≡ x → closing_from mark (i + 1) (drop (i + 1) text) ≡ x
 closing_step mark text i x within fails h =
@@ -24,11 +23,3 @@ parts_are unit units text part gap n r e some g f h =
     ∙ ap (λ x. part + with_head x (parts_len units (drop (part + x) text))) (g ∙ ap underscore_len (take_rest text part))
     ∙ sym (cond-false (nat_eq part 0) (parts_len units text) (part + with_head (underscore_len (drop part text)) (parts_len units (drop (part + underscore_len (drop part text)) text))) (ne_eqb part 0 some))
     ∙ ap (λ x. cond (nat_eq x 0) (parts_len units text) (x + with_head (underscore_len (drop x text)) (parts_len units (drop (x + underscore_len (drop x text)) text)))) e
-
-pub renamed_is : (pragma inner text : List ℕ) (b : Bool) → inner ≡ inside pragma → text ≡ behind_blanks inner → opens (codes "RENAMED_FROM") text ≡ true → b ≡ names (take (length text - 12) (drop 12 text)) → b ≡ is_renamed pragma
-unfolding is_renamed
-renamed_is pragma inner text b i e holds h =
-    let f : text ≡ behind_blanks (inside pragma) = e ∙ ap behind_blanks i in
-    h ∙ ap names (take_rest text 12)
-    ∙ ap (λ x. x && names (drop 12 text)) (sym holds)
-    ∙ ap (λ t. opens (codes "RENAMED_FROM") t && names (drop 12 t)) f

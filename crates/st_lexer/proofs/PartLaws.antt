@@ -1,7 +1,7 @@
 -- Fronts that are the parts of a time.
-use Rattle.std.proofs.Common.{◌≡◌, ℕ, zero, suc, ◌+◌, ◌-◌, ◌<◌, ◌≤◌, Bool, true, false, ◌&&◌, ◌||◌, not, List, [], ◌∷◌, length, take, drop, refl, sym, ap, subst, ◌∙◌, inl, inr, map, nat_eq, cond, codes, max, min, length-take, length-drop, arith}
-use Rattle.std.proofs.lemmas.Bool.{and_parts, and_from, and_left, and_right, or_from, or_left, or_right, or_parts, both_ways, cases_Bool, cases_lt, cases_eq, cond-true, cond-false, false_from_ne_true, eqb-true, eqb-false, ne_eqb, eq-eqb, not-true, not-false, not_from_true, not_from_false}
-use Rattle.std.proofs.lemmas.List.{drop-take, drop_all, drop-drop, take_all}
+use Rattle.std.proofs.Common.{◌≡◌, ℕ, zero, suc, ◌+◌, ◌-◌, ◌<◌, ◌≤◌, Bool, true, false, ◌&&◌, ◌||◌, not, List, [], ◌∷◌, length, take, drop, refl, sym, ap, ◌∙◌, inl, inr, nat_eq, cond, codes, min, length-take, length-drop, arith}
+use Rattle.std.proofs.lemmas.Bool.{and_parts, and_from, and_left, and_right, or_from, or_left, or_right, or_parts, both_ways, cases_Bool, cases_lt, cases_eq, cond-true, cond-false, eqb-true, ne_eqb, eq-eqb, not_from_true, not_from_false}
+use Rattle.std.proofs.lemmas.List.{drop-take, drop_all, drop-drop}
 use Rattle.std.proofs.lemmas.Bool.Decides.{nat_tests}
 use Rattle.std.specs.List.{list_any, prefix_len}
 use Rattle.std.specs.Char.{to_ascii_uppercase}
@@ -64,32 +64,32 @@ digits text = prefix_len is_digit text
 abbrev pub behind : List ℕ → List ℕ
 behind text = drop (digits text) text
 
--- a part with the unit and parts with the units behind it
+-- a part with the unit and parts with smaller units behind it
 abbrev pub with_part : List ℕ → List (List ℕ) → List ℕ → Bool
-with_part unit units text = begins_part unit text && (is_empty (behind_part unit text) || are_parts units (behind_underscore (behind_part unit text)))
+with_part unit smaller text = begins_part unit text && (is_empty (behind_part unit text) || are_parts smaller (behind_underscore (behind_part unit text)))
 
 -- no digit begins the text
-digitless : (units : List (List ℕ)) (text : List ℕ) → begins is_digit text ≡ false → are_parts units text ≡ false
+digitless : (smaller : List (List ℕ)) (text : List ℕ) → begins is_digit text ≡ false → are_parts smaller text ≡ false
 digitless [] text h = refl
-digitless (unit ∷ units) text h = or_from _ _ (digitless units text h) (and_left _ _ (and_left _ _ h))
+digitless (unit ∷ smaller) text h = or_from _ _ (digitless smaller text h) (and_left _ _ (and_left _ _ h))
 
-no_parts_nil : (units : List (List ℕ)) → are_parts units [] ≡ false
-no_parts_nil units = digitless units [] refl
+no_parts_nil : (smaller : List (List ℕ)) → are_parts smaller [] ≡ false
+no_parts_nil smaller = digitless smaller [] refl
 
 -- this unit does not stand behind the digits
-unitless : (unit : List ℕ) (units : List (List ℕ)) (text : List ℕ) (m : ℕ) → opens unit (behind text) ≡ false → with_part unit units (take m text) ≡ false
-unitless unit units text m h = and_left _ _ (and_right _ _ (ap (opens unit) (behind_all_front is_digit text m) ∙ opens_front unit (behind text) (m - digits text) h))
+unitless : (unit : List ℕ) (smaller : List (List ℕ)) (text : List ℕ) (m : ℕ) → opens unit (behind text) ≡ false → with_part unit smaller (take m text) ≡ false
+unitless unit smaller text m h = and_left _ _ (and_right _ _ (ap (opens unit) (behind_all_front is_digit text m) ∙ opens_front unit (behind text) (m - digits text) h))
 
 -- no unit of the list does
-pub no_units : (units : List (List ℕ)) (text : List ℕ) (m : ℕ) → list_any (λ unit. opens unit (behind text)) units ≡ false → are_parts units (take m text) ≡ false
+pub no_units : (smaller : List (List ℕ)) (text : List ℕ) (m : ℕ) → list_any (λ unit. opens unit (behind text)) smaller ≡ false → are_parts smaller (take m text) ≡ false
 no_units [] text m h = refl
-no_units (unit ∷ units) text m h =
+no_units (unit ∷ smaller) text m h =
     let parts = or_parts (opens unit (behind text)) _ h in
-    or_from _ _ (no_units units text m parts.1) (unitless unit units text m parts.0)
+    or_from _ _ (no_units smaller text m parts.1) (unitless unit smaller text m parts.0)
 
 -- where no part with this unit makes a longer front
-skip : (unit : List ℕ) (units : List (List ℕ)) (text : List ℕ) (n : ℕ) → IsLongest (are_parts units) text n → ((m : ℕ) → n < m → m ≤ length text → with_part unit units (take m text) ≡ false) → IsLongest (are_parts (unit ∷ units)) text n
-skip unit units text n front fails = record {
+skip : (unit : List ℕ) (smaller : List (List ℕ)) (text : List ℕ) (n : ℕ) → IsLongest (are_parts smaller) text n → ((m : ℕ) → n < m → m ≤ length text → with_part unit smaller (take m text) ≡ false) → IsLongest (are_parts (unit ∷ smaller)) text n
+skip unit smaller text n front fails = record {
   within = front.within;
   passes = λ p. or_left _ _ (front.passes p);
   longest = λ m past within. or_from _ _ (front.longest m past within) (fails m past within);
@@ -119,7 +119,7 @@ not_empty rest zero some within = absurd (omega arith)
 not_empty [] (suc j) some within = absurd (omega arith)
 not_empty (c ∷ cs) (suc j) some within = refl
 
-module _ (unit : List ℕ) (units : List (List ℕ)) (text : List ℕ) where
+module _ (unit : List ℕ) (smaller : List (List ℕ)) (text : List ℕ) where
   abbrev part : ℕ
   part = digits text + length unit
 
@@ -128,47 +128,47 @@ module _ (unit : List ℕ) (units : List (List ℕ)) (text : List ℕ) where
 
   -- what may stand behind the first part
   abbrev tail : ℕ → Bool
-  tail j = is_empty (take j (drop part text)) || are_parts units (behind_underscore (take j (drop part text)))
+  tail j = is_empty (take j (drop part text)) || are_parts smaller (behind_underscore (take j (drop part text)))
 
-  tail_is : (j : ℕ) → (is_empty (behind_part unit (take (part + j) text)) || are_parts units (behind_underscore (behind_part unit (take (part + j) text)))) ≡ tail j
-  tail_is j = ap (λ rest. is_empty rest || are_parts units (behind_underscore rest)) (part_behind unit text j)
+  tail_is : (j : ℕ) → (is_empty (behind_part unit (take (part + j) text)) || are_parts smaller (behind_underscore (behind_part unit (take (part + j) text)))) ≡ tail j
+  tail_is j = ap (λ rest. is_empty rest || are_parts smaller (behind_underscore rest)) (part_behind unit text j)
 
   begins_with_part : 0 < digits text → 0 < length unit → opens unit (behind text) ≡ true → (m : ℕ) → part ≤ m → begins_part unit (take m text) ≡ true
   begins_with_part some long holds m past = and_from _ _
       (begins_front is_digit text m (omega arith) ∙ begins_run is_digit text some)
       (ap (opens unit) (behind_all_front is_digit text m) ∙ opens_take unit (behind text) (m - digits text) (omega arith) ∙ holds)
 
-  tail_passes : (n : ℕ) → IsLongest (are_parts units) (drop gap (drop part text)) n → tail (with_head gap n) ≡ true
+  tail_passes : (n : ℕ) → IsLongest (are_parts smaller) (drop gap (drop part text)) n → tail (with_head gap n) ≡ true
   tail_passes zero front = refl
   tail_passes (suc n) front =
       let e : with_head gap (suc n) ≡ gap + suc n = with_head_some gap (suc n) (omega arith) in
       let f : gap + suc n - gap ≡ suc n = omega arith in
-      ap tail e ∙ or_right _ _ (ap (are_parts units) (underscore_front (drop part text) (gap + suc n) (omega arith) ∙ ap (λ k. take k (drop gap (drop part text))) f) ∙ front.passes (omega arith))
+      ap tail e ∙ or_right _ _ (ap (are_parts smaller) (underscore_front (drop part text) (gap + suc n) (omega arith) ∙ ap (λ k. take k (drop gap (drop part text))) f) ∙ front.passes (omega arith))
 
-  tail_fails : (n j : ℕ) → IsLongest (are_parts units) (drop gap (drop part text)) n → with_head gap n < j → j ≤ length (drop part text) → tail j ≡ false
+  tail_fails : (n j : ℕ) → IsLongest (are_parts smaller) (drop gap (drop part text)) n → with_head gap n < j → j ≤ length (drop part text) → tail j ≡ false
   tail_fails n j front past within = or_from _ _ (not_empty (drop part text) j (omega arith) within)
-      (ap (are_parts units) (underscore_front (drop part text) j (omega arith)) ∙ elim (cases_lt gap j) [
+      (ap (are_parts smaller) (underscore_front (drop part text) j (omega arith)) ∙ elim (cases_lt gap j) [
         | inl more ↦ front.longest (j - gap) (beyond n past more) (omega (arith, length-drop gap (drop part text)))
-        | inr less ↦ let e : j - gap ≡ 0 = omega arith in ap (λ k. are_parts units (take k (drop gap (drop part text)))) e ∙ no_parts_nil units
+        | inr less ↦ let e : j - gap ≡ 0 = omega arith in ap (λ k. are_parts smaller (take k (drop gap (drop part text)))) e ∙ no_parts_nil smaller
       ])
     where
       beyond : (n : ℕ) → with_head gap n < j → gap < j → n < j - gap
       beyond zero past more = omega arith
       beyond (suc n) past more = let e : with_head gap (suc n) ≡ gap + suc n = with_head_some gap (suc n) (omega arith) in omega arith
 
-  -- where the text begins with a part, and none of the other units stands behind its digits
-  taken : (n : ℕ) → 0 < digits text → 0 < length unit → opens unit (behind text) ≡ true → part ≤ length text → list_any (λ other. opens other (behind text)) units ≡ false → IsLongest (are_parts units) (drop gap (drop part text)) n → IsLongest (are_parts (unit ∷ units)) text (part + with_head gap n)
+  -- where the text begins with a part, and none of the smaller units stands behind its digits
+  taken : (n : ℕ) → 0 < digits text → 0 < length unit → opens unit (behind text) ≡ true → part ≤ length text → list_any (λ other. opens other (behind text)) smaller ≡ false → IsLongest (are_parts smaller) (drop gap (drop part text)) n → IsLongest (are_parts (unit ∷ smaller)) text (part + with_head gap n)
   taken n some long holds room others front = record {
     within = omega (arith, head_within n front, length-drop part text);
     passes = λ p. or_right _ _ (and_from _ _ (begins_with_part some long holds (part + with_head gap n) (omega arith)) (tail_is (with_head gap n) ∙ tail_passes n front));
     longest = λ m past within.
         (let e : m ≡ part + (m - part) = omega arith in
-        or_from _ _ (no_units units text m others)
-        (and_right _ _ (ap (λ k. is_empty (behind_part unit (take k text)) || are_parts units (behind_underscore (behind_part unit (take k text)))) e
+        or_from _ _ (no_units smaller text m others)
+        (and_right _ _ (ap (λ k. is_empty (behind_part unit (take k text)) || are_parts smaller (behind_underscore (behind_part unit (take k text)))) e
         ∙ tail_is (m - part) ∙ tail_fails n (m - part) front (omega arith) (omega (arith, length-drop part text)))));
   }
     where
-      head_within : (n : ℕ) → IsLongest (are_parts units) (drop gap (drop part text)) n → with_head gap n ≤ length (drop part text)
+      head_within : (n : ℕ) → IsLongest (are_parts smaller) (drop gap (drop part text)) n → with_head gap n ≤ length (drop part text)
       head_within zero front = omega arith
       head_within (suc n) front =
           let e : with_head gap (suc n) ≡ gap + suc n = with_head_some gap (suc n) (omega arith) in
@@ -179,39 +179,39 @@ abbrev guard : List ℕ → List ℕ → Bool
 guard unit text = is_one_of (codes "M" ∷ []) unit && opens (codes "MS") (behind text)
 
 abbrev with_len : List (List ℕ) → List ℕ → ℕ → ℕ
-with_len units text part =
+with_len smaller text part =
     let gap = cond (begins is_underscore (drop part text)) 1 0 in
-    cond (nat_eq part 0) (parts_len units text) (part + with_head gap (parts_len units (drop (part + gap) text)))
+    cond (nat_eq part 0) (parts_len smaller text) (part + with_head gap (parts_len smaller (drop (part + gap) text)))
 
-with_len-none : (units : List (List ℕ)) (text : List ℕ) (part : ℕ) → part ≡ 0 → with_len units text part ≡ parts_len units text
-with_len-none units text part e = cond-true (nat_eq part 0) _ _ (eq-eqb part 0 e)
+with_len-none : (smaller : List (List ℕ)) (text : List ℕ) (part : ℕ) → part ≡ 0 → with_len smaller text part ≡ parts_len smaller text
+with_len-none smaller text part e = cond-true (nat_eq part 0) _ _ (eq-eqb part 0 e)
 
-with_len-some : (units : List (List ℕ)) (text : List ℕ) (part : ℕ) → 0 < part → with_len units text part ≡ part + with_head (gap_of (drop part text)) (parts_len units (drop (gap_of (drop part text)) (drop part text)))
-with_len-some units text part some =
+with_len-some : (smaller : List (List ℕ)) (text : List ℕ) (part : ℕ) → 0 < part → with_len smaller text part ≡ part + with_head (gap_of (drop part text)) (parts_len smaller (drop (gap_of (drop part text)) (drop part text)))
+with_len-some smaller text part some =
     cond-false (nat_eq part 0) _ _ (ne_eqb part 0 (λ e. omega arith))
-    ∙ ap (λ rest. part + with_head (gap_of (drop part text)) (parts_len units rest)) (sym (drop-drop (gap_of (drop part text)) part text))
+    ∙ ap (λ rest. part + with_head (gap_of (drop part text)) (parts_len smaller rest)) (sym (drop-drop (gap_of (drop part text)) part text))
 
-step : (unit : List ℕ) (units : List (List ℕ)) → 0 < length unit → (text : List ℕ) → ((rest : List ℕ) → IsLongest (are_parts units) rest (parts_len units rest))
-    → (opens unit (behind text) ≡ true → guard unit text ≡ false → list_any (λ other. opens other (behind text)) units ≡ false)
-    → (0 < digits text → guard unit text ≡ true → (m : ℕ) → parts_len units text < m → m ≤ length text → with_part unit units (take m text) ≡ false)
-    → IsLongest (are_parts (unit ∷ units)) text (parts_len (unit ∷ units) text)
-step unit units long text ih others special = elim (cases_eq (digits text) 0) [
+step : (unit : List ℕ) (smaller : List (List ℕ)) → 0 < length unit → (text : List ℕ) → ((rest : List ℕ) → IsLongest (are_parts smaller) rest (parts_len smaller rest))
+    → (opens unit (behind text) ≡ true → guard unit text ≡ false → list_any (λ other. opens other (behind text)) smaller ≡ false)
+    → (0 < digits text → guard unit text ≡ true → (m : ℕ) → parts_len smaller text < m → m ≤ length text → with_part unit smaller (take m text) ≡ false)
+    → IsLongest (are_parts (unit ∷ smaller)) text (parts_len (unit ∷ smaller) text)
+step unit smaller long text ih others special = elim (cases_eq (digits text) 0) [
   | inl none ↦
       let e : part_len unit text ≡ 0 = cond-true (nat_eq (digits text) 0) _ _ (eq-eqb _ 0 none) in
-      rw (with_len-none units text (part_len unit text) e) (skip unit units text _ (ih text) (λ m past within.
+      rw (with_len-none smaller text (part_len unit text) e) (skip unit smaller text _ (ih text) (λ m past within.
       and_left _ _ (and_left _ _ (begins_front is_digit text m (omega arith) ∙ begins_no_run is_digit text none))))
   | inr some ↦ elim (cases_Bool (opens unit (behind text))) [
     | inr fails ↦
         let e : part_len unit text ≡ 0 = first some ∙ cond-true (not (opens unit (behind text))) _ _ (not_from_false _ fails) in
-        rw (with_len-none units text (part_len unit text) e) (skip unit units text _ (ih text) (λ m past within. unitless unit units text m fails))
+        rw (with_len-none smaller text (part_len unit text) e) (skip unit smaller text _ (ih text) (λ m past within. unitless unit smaller text m fails))
     | inl holds ↦ elim (cases_Bool (guard unit text)) [
       | inl guards ↦
           let e : part_len unit text ≡ 0 = first some ∙ second holds ∙ cond-true (guard unit text) _ _ guards in
-          rw (with_len-none units text (part_len unit text) e) (skip unit units text _ (ih text) (special (omega arith) guards))
+          rw (with_len-none smaller text (part_len unit text) e) (skip unit smaller text _ (ih text) (special (omega arith) guards))
       | inr free ↦
           let e : part_len unit text ≡ digits text + length unit = first some ∙ second holds ∙ cond-false (guard unit text) _ _ free in
-          let f : with_len units text (digits text + length unit) ≡ _ = with_len-some units text (digits text + length unit) (omega arith) in
-          rw (e, f) (taken unit units text _ (omega arith) long holds (room holds) (others holds free) (ih _))
+          let f : with_len smaller text (digits text + length unit) ≡ _ = with_len-some smaller text (digits text + length unit) (omega arith) in
+          rw (e, f) (taken unit smaller text _ (omega arith) long holds (room holds) (others holds free) (ih _))
     ]
   ]
 ]

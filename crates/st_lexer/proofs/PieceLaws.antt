@@ -1,13 +1,13 @@
 -- The longest piece at the front of a text.
-use Rattle.std.proofs.Common.{◌≡◌, ℕ, zero, suc, ◌+◌, ◌-◌, ◌<◌, ◌≤◌, Bool, true, false, ◌&&◌, ◌||◌, not, List, [], ◌∷◌, ◌++◌, length, take, drop, refl, sym, ap, subst, ◌∙◌, inl, inr, map, nat_eq, cond, codes, max, min, Option, None, Some, length-take, length-drop, arith}
-use Rattle.std.proofs.lemmas.Bool.{and_parts, and_from, and_left, and_right, or_from, or_left, or_right, or_parts, or_cases, both_ways, cases_Bool, cases_lt, cases_order, cond-true, cond-false, false_from_ne_true, eqb-true, eqb-false, ne_eqb, eq-eqb, not-true, not-false, not_from_true, not_from_false}
-use Rattle.std.proofs.lemmas.List.{take-append-drop, take_all}
-use Rattle.std.specs.List.{list_any, prefix_len, AllByRecursion}
+use Rattle.std.proofs.Common.{◌≡◌, ℕ, zero, suc, ◌+◌, ◌<◌, ◌≤◌, Bool, true, false, ◌&&◌, not, List, [], ◌∷◌, length, take, drop, refl, ap, ◌∙◌, inl, inr, cond, codes, length-take, arith}
+use Rattle.std.proofs.lemmas.Bool.{and_from, and_left, and_right, or_from, both_ways, cases_Bool, cases_order, cond-true, cond-false, false_from_ne_true, not_from_true, not_from_false}
+use Rattle.std.proofs.lemmas.List.{take-append-drop}
+use Rattle.std.specs.List.{prefix_len, AllByRecursion}
 use Rattle.std.proofs.lemmas.List.Sums.{prefix_len-le-length}
-use Rattle.st_tree.specs.Words.{is_one_of, spells, opens, begins, is_letter, is_word, is_word_character}
+use Rattle.st_tree.specs.Words.{is_one_of, begins, is_letter, is_word_character}
 use Rattle.st_tree.specs.Pieces.{is_whole_word, is_whole_symbol, is_symbol, symbols, opens_comment, is_number_sign, is_piece}
 use Rattle.st_lexer.specs.Fronts.{IsLongest, IsLongestFront}
-use Rattle.st_lexer.specs.Reach.{white_len, comment_len, pragma_len, int_len, time_len, address_len, word_len, symbol_len, reaches_of, longest_of}
+use Rattle.st_lexer.specs.Reach.{word_len, symbol_len, reaches_of, longest_of}
 use Rattle.st_lexer.proofs.HeadLaws.{spells_long, alone, either_front}
 use Rattle.st_lexer.proofs.RunLaws.{word_front, no_word}
 use Rattle.st_lexer.proofs.FormLaws.{white_front, comment_front, pragma_front, int_front, time_front, address_front}

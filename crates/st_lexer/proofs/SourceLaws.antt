@@ -1,11 +1,11 @@
 -- The tokens of a source, one after another.
-use Rattle.std.proofs.Common.{◌≡◌, ℕ, ◌-◌, ◌<◌, ◌≤◌, List, [], ◌∷◌, ◌++◌, length, map, refl, sym, ap, subst, ◌∙◌, arith}
+use Rattle.std.proofs.Common.{◌≡◌, ℕ, ◌-◌, ◌<◌, ◌≤◌, List, [], ◌∷◌, ◌++◌, length, map, sym, ap, subst, ◌∙◌, arith}
 use Rattle.std.proofs.lemmas.List.{map_push, append-nil}
 use Rattle.plc_text.specs.Lines.{line_of}
 use Rattle.plc_text.specs.declared.code.Code.TheVariants as codes
 use Rattle.plc_text.specs.declared.denied.Denied.{Denied}
 use Rattle.plc_text.specs.declared.denied.Denied.TheVariants.{Refused, NoMemory}
-use Rattle.st_tree.specs.Tokens.{Token, IsPiece, IsChain, IsBad, Lexes, Tokens, BadAfter, tokens_between}
+use Rattle.st_tree.specs.Tokens.{Token, IsChain, IsBad, Lexes, BadAfter, tokens_between}
 use Rattle.st_tree.specs.Headings.{declaration_before}
 use Rattle.st_lexer.specs.declared.token.Token.{Token as Lexed}
 use Rattle.st_lexer.specs.Views.{token_view}

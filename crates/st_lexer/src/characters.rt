@@ -1,8 +1,11 @@
 ghost use Rattle.std.specs.Prelude.{◌≡◌, ◌==◌, ◌≤◌, length, IsTrue};
+ghost use Rattle.std.specs.Str.{IsAscii};
 ghost use Rattle.std.specs.List.{prefix_len, list_any};
 ghost use Rattle.st_tree.specs.Words as words_spec;
 ghost use Rattle.st_tree.specs.Pieces.{is_symbol as is_symbol_of, opens_comment as opens_comment_of};
 ghost use Rattle.st_lexer.specs.Classes.{test_of};
+
+use std::str;
 
 /// Characters of one kind.
 #[derive(Clone, Copy)]
@@ -34,6 +37,17 @@ impl Class {
             Class::InWord => byte.is_ascii_alphanumeric() || byte == b'_',
             Class::InLine => byte != b'\n',
         }
+    }
+}
+
+/// The bytes as text.
+pub(crate) fn ascii(bytes: &[u8]) -> &str
+    requires { IsAscii bytes.now }
+    ensures { result.now ≡ bytes.now }
+{
+    match str::from_utf8(bytes) {
+        Ok(text) => text,
+        Err(_) => unreachable!(),
     }
 }
 

@@ -1,24 +1,12 @@
 ghost use Rattle.std.specs.Prelude.{◌≡◌, ◌<◌, ◌≤◌, ◌==◌, length, count_by};
-ghost use Rattle.std.specs.Str.{IsAscii};
 ghost use Rattle.plc_text.specs.Lines.{line_of};
 ghost use Rattle.st_lexer.specs.Views.{GivesNext};
 
+use crate::characters::ascii;
 use crate::piece::piece_at;
 use crate::token::{Next, Token};
 use plc_text::Span;
 use std::marker::Model;
-use std::str;
-
-/// The bytes as text.
-fn ascii(bytes: &[u8]) -> &str
-    requires { IsAscii bytes.now }
-    ensures { result.now ≡ bytes.now }
-{
-    match str::from_utf8(bytes) {
-        Ok(text) => text,
-        Err(_) => unreachable!(),
-    }
-}
 
 fn line_feeds(bytes: &[u8]) -> u32
     requires { length bytes.now < u32.MAX }

@@ -8,9 +8,12 @@ mod marks;
 mod piece;
 mod reach;
 mod source;
+#[cfg(test)]
+mod tests;
 mod token;
 
 pub use headings::declaration;
 pub use lexer::Lexer;
+pub use marks::{is_init_on_change, is_no_copy, old_name};
 pub use source::{MAX_SOURCE, tokens};
 pub use token::{Next, Token};

@@ -50,7 +50,6 @@ impl Reaches {
 
     /// What a piece is, unless it is passed over.
     fn kind(&self, piece: &[u8]) -> Option<TokenKind>
-        requires { self.now.pragma ≡ length piece.now → 2 ≤ length piece.now }
         ensures { result ≡ kind_of self.now piece.now }
     {
         let len = piece.len();

@@ -11,7 +11,7 @@ inside pragma = take (length pragma - 2) (drop 1 pragma)
 abbrev pub behind_blanks : List ℕ → List ℕ
 behind_blanks text = behind_all is_blank text
 
--- `attribute`, then this text in quotes
+-- `attribute`, which has 9 letters, and this text with its quotes
 unfoldable pub is_attribute : List ℕ → List ℕ → Bool
 is_attribute quoted pragma =
     let text = behind_blanks (inside pragma) in
@@ -24,7 +24,7 @@ is_no_copy pragma = is_attribute (codes "'NO_COPY'") pragma
 unfoldable pub is_init_on_change : List ℕ → Bool
 is_init_on_change pragma = is_attribute (codes "'INIT_ON_ONLCHANGE'") pragma
 
--- what stands behind `renamed_from`, from its white space on
+-- what stands behind `renamed_from`, which has 12 letters
 abbrev pub behind_renamed : List ℕ → List ℕ
 behind_renamed pragma = drop 12 (behind_blanks (inside pragma))
 
@@ -32,6 +32,7 @@ behind_renamed pragma = drop 12 (behind_blanks (inside pragma))
 abbrev pub old_name : List ℕ → List ℕ
 old_name pragma = take_while is_word_character (behind_blanks (behind_renamed pragma))
 
+-- `renamed_from`, white space and a name
 unfoldable pub is_renamed : List ℕ → Bool
 is_renamed pragma =
     opens (codes "RENAMED_FROM") (behind_blanks (inside pragma))

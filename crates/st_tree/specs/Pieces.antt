@@ -27,11 +27,14 @@ is_comment text =
 unfoldable pub is_pragma : List ℕ → Bool
 is_pragma text = opens (codes "{") text && ends_first (codes "}") (drop 1 text)
 
+abbrev pub is_underscore : ℕ → Bool
+is_underscore c = nat_eq c 95
+
 -- digits with single underscores between them; the flag says whether a digit stands before
 abbrev pub are_spaced : (ℕ → Bool) → Bool → List ℕ → Bool
 are_spaced test after_digit [] = after_digit
 are_spaced test after_digit (c ∷ cs) =
-    if test c then are_spaced test true cs else (nat_eq c 95 && (after_digit && are_spaced test false cs))
+    if test c then are_spaced test true cs else (is_underscore c && (after_digit && are_spaced test false cs))
 
 abbrev pub are_digits : (ℕ → Bool) → List ℕ → Bool
 are_digits test text = are_spaced test false text
@@ -50,9 +53,6 @@ begins_part unit text = begins is_digit text && opens unit (behind_all is_digit 
 
 abbrev pub behind_part : List ℕ → List ℕ → List ℕ
 behind_part unit text = drop (length unit) (behind_all is_digit text)
-
-abbrev pub is_underscore : ℕ → Bool
-is_underscore c = nat_eq c 95
 
 -- the text without one underscore at its front
 abbrev pub behind_underscore : List ℕ → List ℕ
@@ -132,4 +132,11 @@ is_whole_symbol text rest = is_symbol text && not (opens_comment (text ++ rest))
 -- whether the text is a piece where this rest stands behind it
 unfoldable pub is_piece : List ℕ → List ℕ → Bool
 is_piece text rest =
-    is_white_space text || (is_comment text || (is_pragma text || (is_int text || (is_time text || (is_address text || (is_whole_word text rest || is_whole_symbol text rest))))))
+    is_white_space text
+    || (is_comment text
+    || (is_pragma text
+    || (is_int text
+    || (is_time text
+    || (is_address text
+    || (is_whole_word text rest
+    || is_whole_symbol text rest))))))

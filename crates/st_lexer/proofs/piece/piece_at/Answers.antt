@@ -1,20 +1,14 @@
-use Rattle.std.proofs.Common.{◌≡◌, ◌<◌, ◌≤◌, length, take, ap, sym, ◌∙◌, arith}
+use Rattle.std.proofs.Common.{◌≡◌, take, ap, sym, ◌∙◌, arith}
 use Rattle.std.proofs.lemmas.List.{length-take-le}
 use Rattle.st_lexer.specs.Reach.{reaches_of, longest_of, kind_of}
 use Rattle.st_lexer.proofs.PieceLaws.{piece_front}
-use Rattle.st_lexer.proofs.KindLaws.{within, pragma_long, kind_is}
+use Rattle.st_lexer.proofs.KindLaws.{within, kind_is}
 use Rattle.st_lexer.proofs.piece.piece_at.Goals as goal
 
 pub slice_bounds-kind-end : goal.slice_bounds-kind-end
 slice_bounds-kind-end c =
     let len : c.longest-len.result ≡ longest_of (reaches_of c.args.text.now) = c.longest-len.ensures ∙ ap longest_of c.of-reaches.ensures in
     sym (length-take-le _ c.args.text.now (within c.args.text.now _ len (omega (arith, c.if-len-eq0.false))))
-
-pub kind-requires : goal.kind-requires
-kind-requires c =
-    let len : c.longest-len.result ≡ longest_of (reaches_of c.args.text.now) = c.longest-len.ensures ∙ ap longest_of c.of-reaches.ensures in
-    let some : 0 < c.longest-len.result = omega (arith, c.if-len-eq0.false) in
-    λ e. pragma_long c.args.text.now _ some (within c.args.text.now _ len some) (sym (ap (λ r. r.pragma) c.of-reaches.ensures) ∙ e)
 
 pub returns-then-len-eq0-clause-longest : goal.returns-then-len-eq0-clause-longest
 returns-then-len-eq0-clause-longest c = rw (c.longest-len.ensures ∙ ap longest_of c.of-reaches.ensures) (piece_front c.args.text.now)
