@@ -17,7 +17,7 @@ fn letter(kind: TokenKind) -> &'static str {
     }
 }
 
-/// The tokens with their kinds, and the line of each that is not on the first one; or the refusal.
+/// The tokens with their kinds, and behind a colon the line of each that is not on the first one; or the refusal.
 fn listed(alloc: Global, text: &str) -> Result<String, AllocError> {
     let mut list = String::new(alloc);
     match tokens(alloc, text) {
@@ -25,7 +25,7 @@ fn listed(alloc: Global, text: &str) -> Result<String, AllocError> {
             for token in &found {
                 list.push_str(letter(token.kind))?;
                 if token.line != 1 {
-                    list.push_str(format!(in alloc; "{}", token.line)?.as_str())?;
+                    list.push_str(format!(in alloc; ":{}", token.line)?.as_str())?;
                 }
                 list.push_str(format!(in alloc; "<{}>", token.text)?.as_str())?;
             }
@@ -107,10 +107,10 @@ fn passes_over_comments(rt: HostRuntime) -> Result<(), Fail> {
         &rt,
         rt.alloc(),
         &[
-            ("a(* b\n * ( *)c", "W<a>W2<c>"),
+            ("a(* b\n * ( *)c", "W<a>W:2<c>"),
             ("a/* (* */b*/", "W<a>W<b>S<*>S</>"),
-            ("a//(* \r b\nc//", "W<a>W2<c>"),
-            ("a\rb\r\nc", "W<a>W<b>W2<c>"),
+            ("a//(* \r b\nc//", "W<a>W:2<c>"),
+            ("a\rb\r\nc", "W<a>W<b>W:2<c>"),
             ("{ (* } *)", "S<*>S<)>"),
             ("(**)(*)", "E01 - 1"),
             ("a\n(*\n*", "E01 - 2"),
@@ -130,7 +130,7 @@ fn reads_marks(rt: HostRuntime) -> Result<(), Fail> {
             ("{attribute 'no_copy'}", "M<{attribute 'no_copy'}>"),
             (
                 "{\nATTRIBUTE'Init_On_OnlChange' }x",
-                "M<{\nATTRIBUTE'Init_On_OnlChange' }>W2<x>",
+                "M<{\nATTRIBUTE'Init_On_OnlChange' }>W:2<x>",
             ),
             ("{renamed_from\ta1 }", "M<{renamed_from\ta1 }>"),
             ("{renamed_from if}{renamed_froma}", ""),
@@ -162,7 +162,7 @@ fn refuses_bad_places(rt: HostRuntime) -> Result<(), Fail> {
                 "class FINAL A\n{attribute 'no_copy'}END_CLASS FUNCTION {renamed_from x} f?",
                 "E01 F 2",
             ),
-            ("TYPE T1 END_TYPE PROGRAM IF ä", "E01 - 1"),
+            ("TYPE Mode END_TYPE PROGRAM IF ä", "E01 - 1"),
             ("x (* \n\n *) \"", "E01 - 3"),
             ("%I5", "E01 - 1"),
             ("%QX1", "E01 - 1"),
