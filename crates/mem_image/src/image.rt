@@ -37,6 +37,7 @@ impl Image {
     }
 
     /// How many bytes there are.
+    #[inline]
     pub fn len(&self) -> u32
         ensures len { result ≡ length self.now }
         ensures bytes { All (λ byte. byte < 256) self.now }
@@ -44,6 +45,8 @@ impl Image {
         let bytes = self.bytes.as_slice();
         bytes.len() as u32
     }
+
+    #[inline]
 
     pub fn is_empty(&self) -> bool
         ensures { IsTrue result ↔ (self.now ≡ []) }
@@ -120,6 +123,7 @@ impl Image {
 
     /// Writes the `len` bytes from `from` on over those from `to` on, also where the two overlap: what is written is
     /// what stood there before the call.
+    #[inline]
     pub fn copy_within_image(&mut self, to: u32, from: u32, len: u32)
         requires target { to + len ≤ length self.old }
         requires source { from + len ≤ length self.old }
@@ -132,6 +136,7 @@ impl Image {
     }
 
     /// Writes the `len` bytes of the other image from `from` on over those from `to` on.
+    #[inline]
     pub fn copy_from(&mut self, to: u32, source: &Image, from: u32, len: u32)
         requires target { to + len ≤ length self.old }
         requires source { from + len ≤ length source.now }

@@ -39,11 +39,14 @@ impl Regions {
     }
 
     /// How many places there are.
+    #[inline]
     pub fn len(&self) -> u32
         ensures { result ≡ length self.now }
     {
         self.places.len() as u32
     }
+
+    #[inline]
 
     pub fn is_empty(&self) -> bool
         ensures { IsTrue result ↔ (self.now ≡ []) }
@@ -52,6 +55,7 @@ impl Regions {
     }
 
     /// The image at the place.
+    #[inline]
     pub fn at(&self, region: u32) -> Option<&Image>
         requires { region < length self.now }
         ensures { slice_get self.now region ≡ Some (option_copied result) }
@@ -60,6 +64,7 @@ impl Regions {
     }
 
     /// The image at the place, to be written.
+    #[inline]
     pub fn at_mut(&mut self, region: u32) -> Option<&mut Image>
         requires { region < length self.old }
         ensures* writes_back { sem 𝓛 (LendsImage self.entry region result) }
@@ -70,6 +75,7 @@ impl Regions {
     }
 
     /// Takes the image away from the place, which is empty then.
+    #[inline]
     pub fn take(&mut self, region: u32) -> Option<Image>
         requires { region < length self.old }
         ensures image { slice_get self.old region ≡ Some result }
@@ -79,6 +85,7 @@ impl Regions {
     }
 
     /// Puts the image at the place, which is empty before.
+    #[inline]
     pub fn put(&mut self, region: u32, image: Image)
         requires { slice_get self.old region ≡ Some None }
         ensures { self.new ≡ slice_set self.old region (Some image) }

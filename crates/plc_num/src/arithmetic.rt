@@ -6,6 +6,7 @@ use crate::wrapping::wrap;
 use st_types::Elem;
 
 /// `a + b`, wrapped to the kind.
+#[inline]
 pub fn add(e: Elem, a: i128, b: i128) -> i128
     requires left { Fits e a }
     requires right { Fits e b }
@@ -15,6 +16,7 @@ pub fn add(e: Elem, a: i128, b: i128) -> i128
 }
 
 /// `a - b`, wrapped to the kind.
+#[inline]
 pub fn sub(e: Elem, a: i128, b: i128) -> i128
     requires left { Fits e a }
     requires right { Fits e b }
@@ -24,6 +26,7 @@ pub fn sub(e: Elem, a: i128, b: i128) -> i128
 }
 
 /// `a * b`, wrapped to the kind.
+#[inline]
 pub fn mul(e: Elem, a: i128, b: i128) -> i128
     requires left { Fits e a }
     requires right { Fits e b }
@@ -34,6 +37,7 @@ pub fn mul(e: Elem, a: i128, b: i128) -> i128
 }
 
 /// `a / b` toward zero, wrapped to the kind. None where `b` is 0.
+#[inline]
 pub fn div(e: Elem, a: i128, b: i128) -> Option<i128>
     requires left { Fits e a }
     requires right { Fits e b }
@@ -47,6 +51,7 @@ pub fn div(e: Elem, a: i128, b: i128) -> Option<i128>
 }
 
 /// `a MOD b`, which is `a - (a / b) * b` and has the sign of `a`. None where `b` is 0.
+#[inline]
 pub fn rem(e: Elem, a: i128, b: i128) -> Option<i128>
     requires left { Fits e a }
     requires right { Fits e b }

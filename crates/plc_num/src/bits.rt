@@ -34,6 +34,7 @@ fn opposite(a: i128) -> i128
 }
 
 /// The bits that both have.
+#[inline]
 pub fn and(e: Elem, a: i128, b: i128) -> i128
     requires left { Fits e a }
     requires right { Fits e b }
@@ -44,6 +45,7 @@ pub fn and(e: Elem, a: i128, b: i128) -> i128
 }
 
 /// The bits that one of them has, or both.
+#[inline]
 pub fn or(e: Elem, a: i128, b: i128) -> i128
     requires left { Fits e a }
     requires right { Fits e b }
@@ -54,6 +56,7 @@ pub fn or(e: Elem, a: i128, b: i128) -> i128
 }
 
 /// The bits that one of them has, but not both.
+#[inline]
 pub fn xor(e: Elem, a: i128, b: i128) -> i128
     requires left { Fits e a }
     requires right { Fits e b }
@@ -64,6 +67,7 @@ pub fn xor(e: Elem, a: i128, b: i128) -> i128
 }
 
 /// The bits within the kind's width that it has not.
+#[inline]
 pub fn not(e: Elem, a: i128) -> i128
     requires { Fits e a }
     ensures bits { HasBits e (λ k. not_bit (bit a k)) result }

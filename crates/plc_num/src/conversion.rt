@@ -6,6 +6,7 @@ use st_types::Elem;
 use std::cmp::Ordering;
 
 /// The number as a value of the kind: wrapped to it, and for BOOL whether it is not zero.
+#[inline]
 pub fn convert(to: Elem, v: i128) -> i128
     ensures { result ≡ converted to v }
 {
@@ -16,6 +17,7 @@ pub fn convert(to: Elem, v: i128) -> i128
 }
 
 /// The order of the two numbers.
+#[inline]
 pub fn compare(a: i128, b: i128) -> Ordering
     ensures { Compares a b result }
 {

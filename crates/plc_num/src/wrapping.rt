@@ -5,6 +5,7 @@ ghost use Rattle.plc_num.specs.Wrapping.{Wraps, wrapped};
 use st_types::{Elem, fits, highest};
 
 /// How many values the kind has.
+#[inline]
 fn count(e: Elem) -> i128
     ensures { result ≡ pos (2 ^ bits e) }
 {
@@ -18,6 +19,7 @@ fn count(e: Elem) -> i128
 }
 
 /// The value of the kind that differs from `v` by whole turns.
+#[inline]
 fn turned(e: Elem, v: i128) -> i128
     ensures { Wraps e v result }
 {
@@ -33,6 +35,7 @@ fn turned(e: Elem, v: i128) -> i128
 }
 
 /// The one value of the kind that differs from `v` by a multiple of two to the kind's width.
+#[inline]
 pub fn wrap(e: Elem, v: i128) -> i128
     ensures wraps { Wraps e v result }
     ensures value { result ≡ wrapped e v }

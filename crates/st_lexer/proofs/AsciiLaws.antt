@@ -9,7 +9,7 @@ use Rattle.std.specs.Char.{to_ascii_uppercase}
 use Rattle.std.specs.List.{list_all, take_while}
 use Rattle.st_tree.specs.declared.token.TokenKind.{TokenKind}
 use Rattle.st_tree.specs.declared.token.TokenKind.TheVariants.{Mark}
-use Rattle.st_tree.specs.Words.{is_one_of, spells, opens, begins, behind_all, is_blank, is_digit, is_binary_digit, is_octal_digit, is_hexadecimal_digit, is_letter, is_word_character, is_word, is_number}
+use Rattle.plc_text.specs.Words.{is_one_of, spells, opens, begins, behind_all, is_blank, is_digit, is_binary_digit, is_octal_digit, is_hexadecimal_digit, is_letter, is_word_character, is_word, is_number}
 use Rattle.st_tree.specs.Pieces.{is_white_space, is_comment, is_pragma, ends_first, are_spaced, are_split, is_bit_place, is_int, begins_part, behind_part, is_underscore, behind_underscore, is_empty, are_parts, units, is_time, is_point, is_location, is_address, opens_one_of, is_whole_word, is_whole_symbol, is_symbol, symbols, is_piece}
 use Rattle.st_tree.specs.Marks.{inside, behind_blanks, is_attribute, is_no_copy, is_init_on_change, behind_renamed, is_renamed, is_mark}
 use Rattle.st_tree.specs.Tokens.{piece_kind}

@@ -4,7 +4,7 @@ use Rattle.std.proofs.lemmas.Bool.{and_left, and_right, cases_Bool, cond-true, c
 use Rattle.std.proofs.lemmas.Bool.Decides.{nat_tests}
 use Rattle.std.specs.List.{list_all, prefix_len}
 use Rattle.std.specs.Char.{to_ascii_uppercase}
-use Rattle.st_tree.specs.Words.{opens, is_blank, is_digit, is_binary_digit, is_octal_digit, is_hexadecimal_digit, is_number}
+use Rattle.plc_text.specs.Words.{opens, is_blank, is_digit, is_binary_digit, is_octal_digit, is_hexadecimal_digit, is_number}
 use Rattle.st_tree.specs.Pieces.{is_white_space, ends_first, is_comment, is_no_line_feed, is_pragma, are_spaced, are_split, is_bit_place, is_int, is_time, is_address, is_location, opens_one_of, is_point, are_parts, units}
 use Rattle.st_lexer.specs.Fronts.{IsLongest}
 use Rattle.st_lexer.specs.Reach.{with_head, closing_from, white_len, block_len, line_len, comment_len, pragma_len, based_len, int_len, bit_len, wide_len, bit_with_width_len, location_len, address_len, timed_len, time_len}

@@ -4,7 +4,7 @@ use Rattle.std.proofs.lemmas.List.{take-take, drop-take, drop_all, length-map}
 use Rattle.std.proofs.lemmas.Bool.{and_from, and_left, and_right, or_from, or_left, or_right, both_ways, false_from_ne_true, cases_lt, or_cases, cond-false, ne_eqb}
 use Rattle.std.specs.Char.{to_ascii_uppercase}
 use lib.Pointwise.{pointwise_long}
-use Rattle.st_tree.specs.Words.{spells, opens}
+use Rattle.plc_text.specs.Words.{spells, opens}
 use Rattle.st_lexer.specs.Fronts.{IsLongest, IsLongestFront}
 use Rattle.st_lexer.specs.Reach.{with_head}
 

@@ -6,7 +6,8 @@ use Rattle.std.proofs.lemmas.List.{length-take-le}
 use Rattle.std.specs.Char.{to_ascii_uppercase}
 use Rattle.std.specs.List.{list_all, prefix_len, AllByRecursion}
 use Rattle.st_tree.specs.declared.token.TokenKind.TheVariants.{Word, Keyword, Symbol}
-use Rattle.st_tree.specs.Words.{is_one_of, spells, begins, is_keyword, is_letter, is_word, is_word_character}
+use Rattle.plc_text.specs.Words.{is_one_of, spells, begins, is_letter, is_word, is_word_character}
+use Rattle.st_tree.specs.Words.{is_keyword}
 use Rattle.st_tree.specs.Pieces.{is_white_space, is_comment, is_pragma, is_int, is_time, is_address, is_whole_word, is_whole_symbol, is_symbol, symbols, is_piece}
 use Rattle.st_tree.specs.Tokens.{piece_kind}
 use Rattle.st_lexer.specs.Fronts.{IsLongest}

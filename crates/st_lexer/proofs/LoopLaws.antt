@@ -2,7 +2,7 @@
 use Rattle.std.proofs.Common.{◌≡◌, ℕ, ◌+◌, ◌-◌, ◌<◌, true, false, List, ◌∷◌, length, take, drop, get_or, sym, ap, ◌∙◌, cond, nat_eq}
 use Rattle.std.proofs.lemmas.List.{drop_more, take_rest}
 use Rattle.std.proofs.lemmas.Bool.{cond-true, cond-false, ne_eqb}
-use Rattle.st_tree.specs.Words.{opens}
+use Rattle.plc_text.specs.Words.{opens}
 use Rattle.st_tree.specs.Pieces.{units}
 use Rattle.st_lexer.specs.Reach.{with_head, closing_from, part_len, underscore_len, parts_len, timed_len}
 

@@ -6,7 +6,7 @@ use Rattle.std.proofs.lemmas.Bool.Decides.{nat_tests}
 use Rattle.std.specs.List.{list_any, prefix_len}
 use Rattle.std.specs.Char.{to_ascii_uppercase}
 use Rattle.std.proofs.lemmas.List.Sums.{prefix_len-le-length}
-use Rattle.st_tree.specs.Words.{is_one_of, opens, begins, behind_all, is_digit}
+use Rattle.plc_text.specs.Words.{is_one_of, opens, begins, behind_all, is_digit}
 use Rattle.st_tree.specs.Pieces.{begins_part, behind_part, behind_underscore, is_empty, is_underscore, are_parts, units}
 use Rattle.st_lexer.specs.Fronts.{IsLongest}
 use Rattle.st_lexer.specs.Reach.{with_head, part_len, parts_len}

@@ -4,7 +4,7 @@ use Rattle.std.proofs.lemmas.Bool.{and_from, and_left, and_right, or_from, both_
 use Rattle.std.proofs.lemmas.List.{take-append-drop}
 use Rattle.std.specs.List.{prefix_len, AllByRecursion}
 use Rattle.std.proofs.lemmas.List.Sums.{prefix_len-le-length}
-use Rattle.st_tree.specs.Words.{is_one_of, spells, begins, is_letter, is_word_character}
+use Rattle.plc_text.specs.Words.{is_one_of, spells, begins, is_letter, is_word_character}
 use Rattle.st_tree.specs.Pieces.{is_whole_word, is_whole_symbol, is_symbol, symbols, opens_comment, is_number_sign, is_piece}
 use Rattle.st_lexer.specs.Fronts.{IsLongest, IsLongestFront}
 use Rattle.st_lexer.specs.Reach.{word_len, symbol_len, reaches_of, longest_of}

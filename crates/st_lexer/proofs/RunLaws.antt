@@ -2,7 +2,7 @@
 use Rattle.std.proofs.Common.{◌≡◌, ℕ, zero, suc, ◌+◌, ◌<◌, ◌≤◌, Bool, true, false, ◌&&◌, List, [], ◌∷◌, length, take, refl, sym, ap, ◌∙◌, inl, inr, nat_eq, cond, length-take, arith}
 use Rattle.std.proofs.lemmas.Bool.{and_parts, and_left, and_right, both_ways, cases_Bool, cond-true, cond-false, or_left, false_from_ne_true, and_cases, ne_eqb}
 use Rattle.std.specs.List.{list_all, prefix_len}
-use Rattle.st_tree.specs.Words.{spells, opens, begins, is_digit, is_letter, is_word_character, is_word, is_number}
+use Rattle.plc_text.specs.Words.{spells, opens, begins, is_digit, is_letter, is_word_character, is_word, is_number}
 use Rattle.st_tree.specs.Pieces.{ends_first, are_spaced, is_underscore}
 use Rattle.st_lexer.specs.Fronts.{IsLongest}
 use Rattle.st_lexer.specs.Reach.{with_head, closing_from, spaced_from, digits_len}

@@ -2,7 +2,7 @@
 use Rattle.std.specs.Prelude.{ℕ, Bool}
 use Rattle.st_lexer.specs.declared.characters.Class.{Class}
 use Rattle.st_lexer.specs.declared.characters.Class.TheVariants as classes
-use Rattle.st_tree.specs.Words.{is_blank, is_digit, is_binary_digit, is_octal_digit, is_hexadecimal_digit, is_word_character}
+use Rattle.plc_text.specs.Words.{is_blank, is_digit, is_binary_digit, is_octal_digit, is_hexadecimal_digit, is_word_character}
 use Rattle.st_tree.specs.Pieces.{is_no_line_feed}
 
 abbrev pub test_of : Class → ℕ → Bool

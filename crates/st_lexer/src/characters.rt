@@ -1,7 +1,8 @@
 ghost use Rattle.std.specs.Prelude.{◌≡◌, ◌==◌, ◌≤◌, length, IsTrue};
 ghost use Rattle.std.specs.Str.{IsAscii};
 ghost use Rattle.std.specs.List.{prefix_len, list_any};
-ghost use Rattle.st_tree.specs.Words as words_spec;
+ghost use Rattle.plc_text.specs.Words as words_spec;
+ghost use Rattle.st_tree.specs.Words.{is_keyword as is_keyword_of};
 ghost use Rattle.st_tree.specs.Pieces.{is_symbol as is_symbol_of, opens_comment as opens_comment_of};
 ghost use Rattle.st_lexer.specs.Classes.{test_of};
 
@@ -233,7 +234,7 @@ const KEYWORDS: [&str; 95] = [
 ];
 
 pub(crate) fn is_keyword(word: &[u8]) -> bool
-    ensures { result ≡ words_spec.is_keyword word.now }
+    ensures { result ≡ is_keyword_of word.now }
 {
     is_one_of(word, &KEYWORDS)
 }

@@ -1,7 +1,8 @@
 //! The pragmas that count.
 ghost use Rattle.std.specs.Prelude.{◌≡◌, ◌↔◌, true, IsSome, IfSome};
 ghost use Rattle.std.specs.List.{list_all, take_while};
-ghost use Rattle.st_tree.specs.Words.{behind_all, is_blank, is_word_character, is_word as is_word_of, is_name as is_name_of};
+ghost use Rattle.plc_text.specs.Words.{behind_all, is_blank, is_word_character, is_word as is_word_of};
+ghost use Rattle.st_tree.specs.Words.{is_name as is_name_of};
 ghost use Rattle.st_tree.specs.Marks as marks;
 ghost use Rattle.st_lexer.specs.Reach.{names as names_of};
 

@@ -3,7 +3,7 @@ use Rattle.std.specs.Prelude.{ℕ, Bool, true, false, ◌&&◌, not, List, [], �
 use Rattle.plc_text.specs.Text.{folded}
 use Rattle.st_tree.specs.declared.token.TokenKind.{TokenKind}
 use Rattle.st_tree.specs.declared.token.TokenKind.TheVariants.{Word, Keyword, Mark}
-use Rattle.st_tree.specs.Words.{is_one_of}
+use Rattle.plc_text.specs.Words.{is_one_of}
 use Rattle.st_tree.specs.Tokens.{Token}
 
 abbrev pub is_word_kind : TokenKind → Bool

@@ -1,7 +1,7 @@
 -- The pieces that a text is made of: white space, comments, pragmas and the other tokens (IEC 61131-3:2013, 6.1 to 6.3).
 use Rattle.std.specs.Prelude.{ℕ, Bool, true, false, ◌&&◌, ◌||◌, not, nat_eq, List, [], ◌∷◌, ◌++◌, length, drop, codes, if◌then◌else◌}
 use Rattle.std.specs.List.{list_all, list_any}
-use Rattle.st_tree.specs.Words.{spells, is_one_of, opens, begins, behind_all, is_blank, is_digit, is_binary_digit, is_octal_digit, is_hexadecimal_digit, is_word_character, is_word, is_number}
+use Rattle.plc_text.specs.Words.{spells, is_one_of, opens, begins, behind_all, is_blank, is_digit, is_binary_digit, is_octal_digit, is_hexadecimal_digit, is_word_character, is_word, is_number}
 
 -- one character of white space
 abbrev pub is_white_space : List ℕ → Bool

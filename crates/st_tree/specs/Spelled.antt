@@ -2,7 +2,7 @@
 use Rattle.std.specs.Prelude.{ℕ, ◌+◌, ◌-◌, ◌*◌, ◌==◌, List, [], ◌∷◌, drop, fold, codes, slice_index, if◌then◌else◌}
 use Rattle.std.specs.List.{before_first, after_first}
 use Rattle.std.specs.Char.{to_ascii_uppercase}
-use Rattle.st_tree.specs.Words.{opens, begins, is_digit}
+use Rattle.plc_text.specs.Words.{opens, begins, is_digit}
 use Rattle.st_tree.specs.Pieces.{is_point}
 
 -- `A` is 10

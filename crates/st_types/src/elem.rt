@@ -23,6 +23,7 @@ pub enum Elem {
 
 impl Elem {
     /// The width in bits: 1 for BOOL.
+    #[inline]
     pub fn bits(self) -> u32
         ensures { result ≡ kinds.bits self }
     {
@@ -36,6 +37,7 @@ impl Elem {
     }
 
     /// How many bytes hold a value: a BOOL has one to itself.
+    #[inline]
     pub fn bytes(self) -> u32
         ensures { result ≡ kinds.bytes self }
     {
@@ -43,6 +45,7 @@ impl Elem {
     }
 
     /// Whether the values are in two's complement.
+    #[inline]
     pub fn is_signed(self) -> bool
         ensures { result ≡ kinds.is_signed self }
     {
@@ -53,6 +56,7 @@ impl Elem {
     }
 
     /// Whether it is a kind of integers, signed or unsigned.
+    #[inline]
     pub fn is_integer(self) -> bool
         ensures { result ≡ kinds.is_integer self }
     {
@@ -63,6 +67,7 @@ impl Elem {
     }
 
     /// Whether it is a bit string, which BOOL is not.
+    #[inline]
     pub fn is_bit_string(self) -> bool
         ensures { result ≡ kinds.is_bit_string self }
     {

@@ -4,6 +4,7 @@ ghost use Rattle.st_types.specs.Ranges as ranges;
 use crate::elem::Elem;
 
 /// The least value of the kind.
+#[inline]
 pub fn lowest(e: Elem) -> i128
     ensures { result ≡ ranges.lowest e }
 {
@@ -17,6 +18,7 @@ pub fn lowest(e: Elem) -> i128
 }
 
 /// The greatest value of the kind: 1 for BOOL, and for TIME that of an unsigned number of 32 bits.
+#[inline]
 pub fn highest(e: Elem) -> i128
     ensures { result ≡ ranges.highest e }
 {
@@ -34,6 +36,7 @@ pub fn highest(e: Elem) -> i128
 }
 
 /// Whether the number is a value of the kind.
+#[inline]
 pub fn fits(e: Elem, v: i128) -> bool
     ensures { IsTrue result ↔ ranges.Fits e v }
 {

@@ -1,5 +1,5 @@
 use Rattle.std.proofs.Common.{◌≡◌, drop}
-use Rattle.st_tree.specs.Words as words
+use Rattle.plc_text.specs.Words as words
 use Rattle.st_lexer.proofs.characters.spells.Given as goal
 
 abbrev pub invariant-loop-i : goal.invariant-loop-i
