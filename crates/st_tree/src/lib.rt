@@ -2,9 +2,11 @@
 //! node has a note: its line in the text as it is written, or what is found out about it in a checked program.
 #![tactic(auto)]
 
+mod address;
 mod classify;
 mod configuration;
 mod declaration;
+mod duration;
 mod expression;
 mod initial;
 mod marks;
@@ -19,12 +21,14 @@ mod token;
 mod type_spec;
 mod unit;
 
+pub use address::{Area, Width};
 pub use classify::terminal_of;
 pub use configuration::{Configuration, InstanceSpec, Resource, Setting, SettingValue, TaskSpec};
 pub use declaration::{
     ClassDecl, ClassSort, FieldGroup, FunctionDecl, InterfaceDecl, Item, Member, Method, Modifier,
     ProgramDecl, Prototype, Section, SectionSort, TypeBody, TypeDecl,
 };
+pub use duration::TimeUnit;
 pub use expression::{Argument, Expr, Literal, Operator, Place, Root, Selector, Tail};
 pub use initial::{FieldInit, Init, Part};
 pub use marks::Marks;
@@ -34,5 +38,5 @@ pub use program::{ConstantDecl, Note, Program, RegionDecl, Target, TaskDecl};
 pub use statement::{Branch, Case, Label, LabelEnd, Otherwise, Stmt};
 pub use terminal::{Terminal, terminal_laws};
 pub use token::{TokenKind, token_laws};
-pub use type_spec::{Bounds, TypeSpec};
+pub use type_spec::{ArraySpec, Bounds, SimpleSpec, TypeSpec};
 pub use unit::{Decl, Unit};

@@ -1,3 +1,5 @@
+//! Copies are equal, and deep trees are let go.
+
 use crate::{Expr, Literal, Marks, Name, Step, Steps};
 use plc_text::{NoMemory, Text};
 use st_types::Boxed;

@@ -1,7 +1,12 @@
 -- Values by example.
-use Rattle.std.proofs.Common.{◌≡◌, refl, codes}
+use Rattle.std.proofs.Common.{◌≡◌, [], ◌∷◌, refl, codes}
 use Rattle.st_tree.specs.Marks.{old_name}
-use Rattle.st_tree.specs.Spelled.{number_of, milliseconds, area_of, width_of, index_of, bit_of}
+use Rattle.st_tree.specs.declared.address.Area.TheVariants as area
+use Rattle.st_tree.specs.declared.address.Width.TheVariants as width
+use Rattle.st_tree.specs.declared.duration.TimeUnit.TheVariants.{Hour, Millisecond}
+use Rattle.st_tree.specs.Number.{number_of}
+use Rattle.st_tree.specs.Duration.{parts_of, milliseconds}
+use Rattle.st_tree.specs.Address.{area_of, width_of, index_of, bit_of}
 
 number-1 : number_of (codes "02") ≡ 2
 number-1 = refl
@@ -30,13 +35,16 @@ time-3 = refl
 time-4 : milliseconds (codes "t#2m7ms") ≡ 120007
 time-4 = refl
 
-area-1 : area_of (codes "%ix0.1") ≡ 73
+parts-1 : parts_of (codes "t#12H_30ms") ≡ (12, Hour) ∷ (30, Millisecond) ∷ []
+parts-1 = refl
+
+area-1 : area_of (codes "%ix0.1") ≡ area.Input
 area-1 = refl
 
-width-1 : width_of (codes "%i0.1") ≡ 88
+width-1 : width_of (codes "%i0.1") ≡ width.Bit
 width-1 = refl
 
-width-2 : width_of (codes "%qd4") ≡ 68
+width-2 : width_of (codes "%qd4") ≡ width.DoubleWord
 width-2 = refl
 
 index-1 : index_of (codes "%I12.3") ≡ 12
