@@ -1,7 +1,7 @@
 //! Expressions whose brackets and signs stand no deeper than 64.
 
 ghost use Rattle.std.specs.Prelude.{◌≡◌, ◌≤◌, ◌+◌, ◌-◌, ◌<◌, length, drop, take, IfOk, IfErr, IfSome, IfNone};
-ghost use Rattle.st_tree.specs.ExpressionView.{expression_of};
+ghost use Rattle.st_tree.specs.Expression.{expression_of};
 ghost use Rattle.st_parser_expr.specs.Beginnings.{Parsed};
 ghost use Rattle.st_parser_expr.specs.Nesting as n;
 ghost use Rattle.st_parser_expr.specs.Promises as m;
@@ -39,7 +39,7 @@ fn fault(stop: Stop, all: usize) -> Fault
 }
 
 /// The first lexeme from `at` on of nesting 65.
-fn first_deep(lexemes: &[Lexeme<'_>], at: usize) -> Option<usize>
+pub fn first_deep(lexemes: &[Lexeme<'_>], at: usize) -> Option<usize>
     requires { at ≤ length lexemes.now }
     ensures found { IfSome result (λ q. n.DeepAt (lexemes_of (drop at lexemes.now)) at q) }
     ensures none { IfNone result (n.NoneDeep (lexemes_of (drop at lexemes.now)) (length lexemes.now - at)) }
