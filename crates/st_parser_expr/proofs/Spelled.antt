@@ -13,8 +13,8 @@ use Rattle.st_tree.specs.declared.expression.Root.TheVariants as roots
 use Rattle.st_tree.specs.Expression as expr
 use Rattle.st_tree.specs.Expression.{Expression, Expressions, no_expressions, expression_then, Selectors, no_selectors, selector_then, Argument, Arguments, no_arguments, argument_then}
 use Rattle.st_tree.specs.Grammar.{Lexeme, Phrase, sign, spelled, word, operator_of, ◌⋆◌, literal, root, expression, selectors, more_expressions, argument, arguments, more_arguments}
-use Rattle.st_parser_expr.specs.Beginnings.{Spells}
-use Rattle.st_parser_expr.specs.Machine.{Follow, calls, reference_end, arguments_end, elsewhere, Want, operand, more_tails, selecting, behind_name, root_next, name_next, close_next, behind_ref, behind_kind, literal_next, digits_next, comma_or_bracket, first_argument, argument_next, behind_argument, comma_or_close, State, on_operand, on_tail, on_selector, on_call, on_hash, on_root, on_name, on_close, on_reference, on_time, on_kind, on_literal, on_digits, on_index, on_more, on_argument, on_first, on_naming, on_follow, on_named, advance, accepts, Ending, go_on, machine, start}
+use Rattle.st_parser_expr.specs.Parse.{Spells}
+use Rattle.st_parser_expr.specs.Private.Machine.{Follow, calls, reference_end, arguments_end, elsewhere, Want, operand, more_tails, selecting, behind_name, root_next, name_next, close_next, behind_ref, behind_kind, literal_next, digits_next, comma_or_bracket, first_argument, argument_next, behind_argument, comma_or_close, State, on_operand, on_tail, on_selector, on_call, on_hash, on_root, on_name, on_close, on_reference, on_time, on_kind, on_literal, on_digits, on_index, on_more, on_argument, on_first, on_naming, on_follow, on_named, advance, accepts, Ending, go_on, machine, start}
 use Rattle.st_parser_expr.proofs.Groups.{flat, grouped, expression-looser}
 
 -- what stands behind the selectors of a place

@@ -12,7 +12,7 @@ use Rattle.st_tree.specs.declared.expression.Root.TheVariants as roots
 use Rattle.st_tree.specs.Expression as expr
 use Rattle.st_tree.specs.Expression.{Expression, Expressions, no_expressions, expression_then, Selector, Selectors, no_selectors, selector_then, Argument, Arguments, no_arguments, argument_then, Tails, no_tails, tail_then}
 use Rattle.st_tree.specs.Grammar.{Lexeme, At, NotNext, lexeme, sign, spelled, word, operator_of, level, operator_at, literal, root, expression, first_tail, tails, selectors, selector, first_expression, more_expressions, arguments, more_arguments, argument}
-use Rattle.st_parser_expr.specs.Machine.{NoOperator, NoStep, IsNoStep, NoSelector, IsNoSelector, NoNaming, Looser}
+use Rattle.st_parser_expr.specs.Private.Machine.{NoOperator, NoStep, IsNoStep, NoSelector, IsNoSelector, NoNaming, Looser}
 use Rattle.st_parser_expr.proofs.MachineLaws.{signed, no_selector}
 use Rattle.st_parser_expr.proofs.Groups.{lt_or_le, level-small}
 use Rattle.st_parser_expr.proofs.Passes.{is_sign, no_step-sign, first_tail-tails, NoStep-tails, NoStep-not_hash, not_hash-selectors, not_close-argument, positional-expression, rest-no_naming}

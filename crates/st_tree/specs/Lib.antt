@@ -11,6 +11,7 @@ pub mod Expression
 pub mod Initial
 pub mod Statement
 pub mod Grammar
+pub mod Nesting
 pub mod Declarations
 pub mod Reads
 pub use Rattle.plc_text.specs.declared.lines.Span
