@@ -55,6 +55,10 @@ abbrev pub is_word : List ℕ → Bool
 is_word [] = false
 is_word (c ∷ cs) = is_letter c && list_all is_word_character cs
 
+-- a word whose letters are in upper case
+abbrev pub is_upper_word : List ℕ → Bool
+is_upper_word text = is_word text && same (folded text) text
+
 -- one digit or more
 abbrev pub is_number : List ℕ → Bool
 is_number [] = false

@@ -11,6 +11,7 @@ mod refusal;
 #[cfg(test)]
 mod tests;
 mod text;
+mod words;
 
 pub use code::Code;
 pub use denied::Denied;
@@ -20,3 +21,7 @@ pub use memory::NoMemory;
 pub use refusal::Refusal;
 pub use sqlite_items::{Boxed, Items};
 pub use text::Text;
+pub use words::{
+    is_blank, is_digit, is_letter, is_number, is_upper_word, is_word, is_word_character, opens,
+    spells,
+};

@@ -2,7 +2,10 @@ ghost use Rattle.std.specs.Prelude.{◌≡◌, ◌↔◌, IsTrue, IfErr, OnOk, S
 ghost use Rattle.std.specs.HashMap.{get};
 ghost use Rattle.std.specs.Str.{bytes_eq};
 
-use crate::{Code, Denied, Fault, FaultKind, Items, NoMemory, Refusal, Span, Text, line_of};
+use crate::{
+    Code, Denied, Fault, FaultKind, Items, NoMemory, Refusal, Span, Text, is_blank, is_number,
+    is_upper_word, is_word, line_of, opens, spells,
+};
 use std::alloc::{AllocError, AllocFailed, Global};
 use std::cmp::Ordering;
 use std::collections::HashMap;
@@ -186,4 +189,40 @@ fn denies(rt: HostRuntime) -> Result<(), Fail> {
         );
     }
     Ok(())
+}
+
+#[test]
+fn tells_words(rt: HostRuntime) {
+    // A text, and whether it is a word, a word in upper case, a number.
+    for (text, want) in [
+        ("", (false, false, false)),
+        ("_", (true, true, false)),
+        ("MOTOR_1", (true, true, false)),
+        ("Motor", (true, false, false)),
+        ("z", (true, false, false)),
+        ("1A", (false, false, false)),
+        ("A-B", (false, false, false)),
+        ("GRÖSSE", (false, false, false)),
+        ("0", (false, false, true)),
+        ("0019", (false, false, true)),
+        ("1_0", (false, false, false)),
+        ("+1", (false, false, false)),
+    ] {
+        let bytes = text.as_bytes();
+        let told = (is_word(bytes), is_upper_word(bytes), is_number(bytes));
+        assert_eq!(rt; told, want, "{text:?}");
+    }
+    for (text, word, spelled, opened) in [
+        ("While", "WHILE", true, true),
+        ("WhileX", "WHILE", false, true),
+        ("Whil", "WHILE", false, false),
+        ("while", "while", false, false),
+        ("", "", true, true),
+    ] {
+        let (bytes, word) = (text.as_bytes(), word.as_bytes());
+        assert_eq!(rt; spells(bytes, word), spelled, "{text:?}");
+        assert_eq!(rt; opens(bytes, word), opened, "{text:?}");
+    }
+    assert!(rt; b" \t\n\r".iter().all(|byte| is_blank(*byte)));
+    assert!(rt; !is_blank(0x0b));
 }
