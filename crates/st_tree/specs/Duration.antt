@@ -1,9 +1,11 @@
 -- What the text of a duration stands for (IEC 61131-3:2013, 6.3.4): a list of numbers with units, and their sum in milliseconds.
-use Rattle.std.specs.Prelude.{ℕ, Bool, not, ◌+◌, ◌*◌, ◌&&◌, ◌||◌, List, [], ◌∷◌, drop, codes, if◌then◌else◌}
-use Rattle.plc_text.specs.Words.{spells, opens, is_digit}
+use Rattle.std.specs.Prelude.{ℕ, Bool, true, false, not, ◌+◌, ◌*◌, ◌&&◌, List, [], ◌∷◌, take, drop, codes, if◌then◌else◌}
+use Rattle.std.specs.List.{prefix_len}
+use Rattle.plc_text.specs.Words.{spells, is_digit, is_letter}
 use Rattle.st_tree.specs.declared.duration.TimeUnit.{TimeUnit}
 use Rattle.st_tree.specs.declared.duration.TimeUnit.TheVariants.{Day, Hour, Minute, Second, Millisecond}
-use Rattle.st_tree.specs.Number.{digits_value, without_underscores}
+use Rattle.st_tree.specs.Pieces.{is_underscore}
+use Rattle.st_tree.specs.Number.{digits_value}
 
 -- the unit that these letters name
 abbrev pub unit_named : List ℕ → TimeUnit
@@ -21,32 +23,36 @@ milliseconds_in Minute = 60_000
 milliseconds_in Second = 1000
 milliseconds_in Millisecond = 1
 
--- both are digits, or neither is
-abbrev pub are_alike : ℕ → ℕ → Bool
-are_alike c d = is_digit c && is_digit d || not (is_digit c || is_digit d)
+abbrev pub is_unit_letter : ℕ → Bool
+is_unit_letter c = is_letter c && not (is_underscore c)
 
--- a character before runs: in the first one where that is of its sort, else a run of its own
-abbrev pub before_runs : ℕ → List (List ℕ) → List (List ℕ)
-before_runs c ((d ∷ run) ∷ runs) = if are_alike c d then (c ∷ d ∷ run) ∷ runs else (c ∷ []) ∷ (d ∷ run) ∷ runs
-before_runs c runs = (c ∷ []) ∷ runs
+-- the digits at the front, and the letters
+abbrev pub digits_at : List ℕ → List ℕ
+digits_at text = take (prefix_len is_digit text) text
 
--- the text cut wherever digits and letters meet
-abbrev pub runs_of : List ℕ → List (List ℕ)
-runs_of [] = []
-runs_of (c ∷ cs) = before_runs c (runs_of cs)
+abbrev pub letters_at : List ℕ → List ℕ
+letters_at text = take (prefix_len is_unit_letter text) text
 
--- each number with the unit behind it
-abbrev pub paired : List (List ℕ) → List (ℕ × TimeUnit)
-paired (digits ∷ letters ∷ runs) = (digits_value 10 digits, unit_named letters) ∷ paired runs
-paired runs = []
+-- the number whose digits stand at the front, and the unit behind them
+abbrev pub part_at : List ℕ → ℕ × TimeUnit
+part_at text = (digits_value 10 (digits_at text), unit_named (letters_at (drop (prefix_len is_digit text) text)))
 
--- the parts of a duration, in order; underscores between them do not count
+-- a part for each place where digits begin; the flag says whether a digit stands just before
+abbrev pub parts_behind : Bool → List ℕ → List (ℕ × TimeUnit)
+parts_behind after_digit [] = []
+parts_behind after_digit (c ∷ cs) =
+    if is_digit c && not after_digit then part_at (c ∷ cs) ∷ parts_behind true cs else parts_behind (is_digit c) cs
+
+-- the parts of a duration, in order
 abbrev pub parts_of : List ℕ → List (ℕ × TimeUnit)
-parts_of text = paired (runs_of (without_underscores (if opens (codes "T#") text then drop 2 text else drop 5 text)))
+parts_of text = parts_behind false text
+
+abbrev pub milliseconds_of : ℕ × TimeUnit → ℕ
+milliseconds_of part = part.0 * milliseconds_in part.1
 
 abbrev pub total : List (ℕ × TimeUnit) → ℕ
 total [] = 0
-total (p ∷ ps) = p.0 * milliseconds_in p.1 + total ps
+total (p ∷ ps) = milliseconds_of p + total ps
 
 abbrev pub milliseconds : List ℕ → ℕ
 milliseconds text = total (parts_of text)

@@ -11,6 +11,7 @@ mod expression;
 mod initial;
 mod marks;
 mod name;
+mod number;
 mod path;
 mod program;
 mod statement;
@@ -21,18 +22,19 @@ mod token;
 mod type_spec;
 mod unit;
 
-pub use address::{Area, Width};
+pub use address::{Area, Width, area_of, bit_of, index_of, width_of};
 pub use classify::terminal_of;
 pub use configuration::{Configuration, InstanceSpec, Resource, Setting, SettingValue, TaskSpec};
 pub use declaration::{
     ClassDecl, ClassSort, FieldGroup, FunctionDecl, InterfaceDecl, Item, Member, Method, Modifier,
     ProgramDecl, Prototype, Section, SectionSort, TypeBody, TypeDecl,
 };
-pub use duration::TimeUnit;
+pub use duration::{TimeUnit, milliseconds};
 pub use expression::{Argument, Expr, Literal, Operator, Place, Root, Selector, Tail};
 pub use initial::{FieldInit, Init, Part};
 pub use marks::Marks;
 pub use name::{Name, Used};
+pub use number::number_of;
 pub use path::{Path, Step, Steps};
 pub use program::{ConstantDecl, Note, Program, RegionDecl, Target, TaskDecl};
 pub use statement::{Branch, Case, Label, LabelEnd, Otherwise, Stmt};
