@@ -1,10 +1,9 @@
-pub mod Words
 pub mod Pieces
 pub mod Marks
 pub mod Tokens
 pub mod Spelled
 pub mod Headings
-pub mod Terminals
+pub mod Terminal
 pub mod Plain
 pub mod ExpressionView
 pub mod SpecView
@@ -14,4 +13,4 @@ pub mod Grammar
 pub mod Declarations
 pub mod Reads
 pub use Rattle.plc_text.specs.declared.lines.Span
-pub mod Rows
+pub mod Private

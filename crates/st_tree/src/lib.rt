@@ -2,7 +2,6 @@
 //! node has a note: its line in the text as it is written, or what is found out about it in a checked program.
 #![tactic(auto)]
 
-mod classify;
 mod configuration;
 mod declaration;
 mod expression;
@@ -19,7 +18,6 @@ mod token;
 mod type_spec;
 mod unit;
 
-pub use classify::terminal_of;
 pub use configuration::{Configuration, InstanceSpec, Resource, Setting, SettingValue, TaskSpec};
 pub use declaration::{
     ClassDecl, ClassSort, FieldGroup, FunctionDecl, InterfaceDecl, Item, Member, Method, Modifier,
@@ -32,7 +30,7 @@ pub use name::{Name, Used};
 pub use path::{Path, Step, Steps};
 pub use program::{ConstantDecl, Note, Program, RegionDecl, Target, TaskDecl};
 pub use statement::{Branch, Case, Label, LabelEnd, Otherwise, Stmt};
-pub use terminal::{Terminal, terminal_laws};
+pub use terminal::{Terminal, is_keyword, keyword, symbol, terminal_laws, terminal_of};
 pub use token::{TokenKind, token_laws};
 pub use type_spec::{Bounds, TypeSpec};
 pub use unit::{Decl, Unit};
