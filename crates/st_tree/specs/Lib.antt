@@ -1,4 +1,3 @@
-pub mod Words
 pub mod Pieces
 pub mod Marks
 pub mod Tokens
@@ -6,7 +5,7 @@ pub mod Number
 pub mod Duration
 pub mod Address
 pub mod Headings
-pub mod Terminals
+pub mod Terminal
 pub mod Expression
 pub mod Initial
 pub mod Statement
@@ -15,4 +14,4 @@ pub mod Nesting
 pub mod Declarations
 pub mod Reads
 pub use Rattle.plc_text.specs.declared.lines.Span
-pub mod Rows
+pub mod Private

@@ -3,7 +3,6 @@
 #![tactic(auto)]
 
 mod address;
-mod classify;
 mod configuration;
 mod declaration;
 mod duration;
@@ -23,7 +22,6 @@ mod type_spec;
 mod unit;
 
 pub use address::{Area, Width, area_of, bit_of, index_of, width_of};
-pub use classify::terminal_of;
 pub use configuration::{Configuration, InstanceSpec, Resource, Setting, SettingValue, TaskSpec};
 pub use declaration::{
     ClassDecl, ClassSort, FieldGroup, FunctionDecl, InterfaceDecl, Item, Member, Method, Modifier,
@@ -38,7 +36,7 @@ pub use number::number_of;
 pub use path::{Path, Step, Steps};
 pub use program::{ConstantDecl, Note, Program, RegionDecl, Target, TaskDecl};
 pub use statement::{Branch, Case, Label, LabelEnd, Otherwise, Stmt};
-pub use terminal::{Terminal, terminal_laws};
+pub use terminal::{Terminal, is_keyword, keyword, symbol, terminal_laws, terminal_of};
 pub use token::{TokenKind, token_laws};
 pub use type_spec::{ArraySpec, Bounds, SimpleSpec, TypeSpec};
 pub use unit::{Decl, Unit};

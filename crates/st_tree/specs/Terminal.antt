@@ -1,11 +1,13 @@
--- The keywords and the symbols of the grammar, and what each is to it.
-use Rattle.std.specs.Prelude.{ℕ, List, [], ◌∷◌, codes, Option, Some, None, if◌then◌else◌}
-use Rattle.std.specs.Str.{bytes_eq}
+-- The keywords and the symbols of the grammar with what each is to it, and which words may name something.
+use Rattle.std.specs.Prelude.{◌≡◌, ◌⊎◌, ℕ, Bool, true, false, ◌&&◌, not, List, [], ◌∷◌, map, codes, Option, Some, None, if◌then◌else◌}
+use Rattle.std.specs.List.{All}
+use Rattle.plc_text.specs.Text.{folded}
+use Rattle.plc_text.specs.Words.{same, is_one_of, is_word}
 use Rattle.st_types.specs.declared.elem.Elem.TheVariants as kind
 use Rattle.st_tree.specs.declared.terminal.Terminal.{Terminal}
 use Rattle.st_tree.specs.declared.terminal.Terminal.TheVariants as x
 
--- the keywords, in upper case
+-- the words of the grammar and the elementary types, which the language keeps for itself (IEC 61131-3:2013, 6.1.3)
 unfoldable pub keyword_terminals : List (List ℕ × Terminal)
 keyword_terminals =
     (codes "ABSTRACT", x.Abstract) ∷
@@ -137,4 +139,46 @@ symbol_terminals =
 -- what the first pair with this text stands for
 abbrev pub terminal_in : List (List ℕ × Terminal) → List ℕ → Option Terminal
 terminal_in [] text = None
-terminal_in (row ∷ rows) text = if bytes_eq row.0 text then Some row.1 else terminal_in rows text
+terminal_in (row ∷ rows) text = if same text row.0 then Some row.1 else terminal_in rows text
+
+-- the texts of a table
+abbrev pub texts_of : List (List ℕ × Terminal) → List (List ℕ)
+texts_of rows = map (λ row. row.0) rows
+
+abbrev pub keywords : List (List ℕ)
+keywords = texts_of keyword_terminals
+
+-- a word that the language keeps for itself, in upper or lower case
+abbrev pub is_keyword : List ℕ → Bool
+is_keyword word = is_one_of keywords word
+
+-- a word that may name something
+abbrev pub is_name : List ℕ → Bool
+is_name text = is_word text && not (is_keyword text)
+
+abbrev pub symbols : List (List ℕ)
+symbols = texts_of symbol_terminals
+
+abbrev pub is_symbol : List ℕ → Bool
+is_symbol text = is_one_of symbols text
+
+-- a table in which no text and no terminal stands twice, and no text has small letters
+pub record IsTable (rows : List (List ℕ × Terminal)) : Type 0 where
+  pub each-counts : All (λ row. terminal_in rows row.0 ≡ Some row.1) rows
+  pub terminals-differ : (text other : List ℕ) (t : Terminal) → terminal_in rows text ≡ Some t → terminal_in rows other ≡ Some t → text ≡ other
+  pub in-capitals : All (λ row. folded row.0 ≡ row.0) rows
+
+-- the terminals that are no keyword's and no symbol's
+abbrev pub is_word_or_value : Terminal → Bool
+is_word_or_value x.Word = true
+is_word_or_value x.Int = true
+is_word_or_value x.Duration = true
+is_word_or_value x.Address = true
+is_word_or_value _ = false
+
+-- the terminal is that of a word or a value, a keyword's or a symbol's
+abbrev pub IsOfSomeText : Terminal → Type 0
+IsOfSomeText t =
+    (is_word_or_value t ≡ true)
+    ⊎ (((text : List ℕ) × (terminal_in keyword_terminals text ≡ Some t))
+    ⊎ ((text : List ℕ) × (terminal_in symbol_terminals text ≡ Some t)))
