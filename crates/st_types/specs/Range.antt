@@ -1,7 +1,7 @@
 -- Which numbers are values of a kind: two's complement for the signed kinds, unsigned for all others.
 use Rattle.std.specs.Prelude.{◌-◌, ◌^◌, ℤ, pos, neg_ℤ, ◌≤ℤ◌, if◌then◌else◌}
 use Rattle.st_types.specs.declared.elem.Elem.{Elem}
-use Rattle.st_types.specs.Kinds.{bits, is_signed}
+use Rattle.st_types.specs.Elem.{bits, is_signed}
 
 -- the least value
 abbrev pub lowest : Elem → ℤ

@@ -1,7 +1,7 @@
 -- What an image ends as, once a `&mut` to a part of it has ended.
 use Rattle.std.specs.Prelude.{ℕ, List}
 use Rattle.std.specs.Borrow.{Lends, MutBor, Fml, Array, u8}
-use Rattle.mem_image.specs.Images.{replaced}
+use Rattle.mem_image.specs.Image.{replaced}
 use Rattle.mem_image.specs.contracts.image.Image.{the_row}
 
 -- the part at the offset holds what was written through r, and all other bytes stay

@@ -2,7 +2,7 @@
 use Rattle.std.specs.Prelude.{ℕ, ◌+◌, ◌*◌, ◌^◌, ℤ, pos, unsigned_abs, List, [], ◌∷◌, ◌++◌, length, take, drop, slice_range}
 use Rattle.std.specs.Int.{bytes_low_first, int_rem_euclid}
 use Rattle.st_types.specs.declared.elem.Elem.{Elem}
-use Rattle.st_types.specs.Kinds.{bytes}
+use Rattle.st_types.specs.Elem.{bytes}
 use Rattle.plc_num.specs.Wrapping.{wrapped}
 
 -- the number that the bytes stand for, the low one first
