@@ -1,5 +1,6 @@
 -- Types of a program unfolded by names into plain trees.
 use Rattle.std.specs.Prelude.{ℕ, zero, suc, ℤ, pos, negsuc, ◌-ℤ◌, Bool, true, false, ◌&&◌, ◌||◌, nat_eq, nat_lt, if◌then◌else◌, List, [], ◌∷◌, length, Option, Some, None, option_map, slice_get}
+use Rattle.std.specs.Ordering.{int_eq}
 use Rattle.plc_text.specs.Words.{same}
 use Rattle.st_types.specs.declared.elem.Elem.{Elem}
 use Rattle.st_types.specs.Elem.{name as elem_name}
@@ -139,11 +140,6 @@ abbrev mutual
   a_field_has_instance no_fields = false
   a_field_has_instance (field_then v sh fs) = has_instance sh || a_field_has_instance fs
 
-abbrev pub same_integer : ℤ → ℤ → Bool
-same_integer (pos a) (pos b) = nat_eq a b
-same_integer (negsuc a) (negsuc b) = nat_eq a b
-same_integer _ _ = false
-
 abbrev pub same_names : List (List ℕ) → List (List ℕ) → Bool
 same_names [] [] = true
 same_names (n ∷ ns) (m ∷ ms) = same n m && same_names ns ms
@@ -159,7 +155,7 @@ abbrev mutual
   same_shape (Enumeration n vs) (Enumeration m ws) = same n m && same_names vs ws
   same_shape (Reference n) (Reference m) = same n m
   same_shape (Interface n) (Interface m) = same n m
-  same_shape (Array low n sh) (Array low' n' sh') = same_integer low low' && (nat_eq n n' && same_shape sh sh')
+  same_shape (Array low n sh) (Array low' n' sh') = int_eq low low' && (nat_eq n n' && same_shape sh sh')
   same_shape (Structure n fs) (Structure m gs) = same n m && same_fields fs gs
   same_shape (Instance n fs) (Instance m gs) = same n m && same_fields fs gs
   same_shape _ _ = false

@@ -1,0 +1,4 @@
+mod Fault
+mod Dispatch
+mod Aliases
+mod Count

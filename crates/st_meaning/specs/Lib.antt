@@ -1,0 +1,10 @@
+pub mod State
+pub mod Operation
+pub mod Place
+pub mod Call
+pub mod Expression
+pub mod Loop
+pub mod Statement
+pub mod Enter
+pub mod ProcessImage
+pub mod Cycle
