@@ -8,3 +8,7 @@ pub mod Statement
 pub mod Enter
 pub mod ProcessImage
 pub mod Cycle
+pub mod Good
+pub mod Use
+pub mod Footprint
+pub mod Promise

@@ -52,10 +52,10 @@ shapes_grow p f g h (StType-F.Array low high of) sh k =
     let a = mapped_some (Array low (extent low high)) (f of) sh k in
     ap (option_map (Array low (extent low high))) (h.by of a.0 a.1) ∙ ap Some a.2
 shapes_grow p f g h (StType-F.Instance c) sh k =
-    let a = then_some (class_at p c) (λ x. fields_by f (class_variables p c) >>= λ fs. Some (Instance x.name fs)) sh k in
-    let b = then_some (fields_by f (class_variables p c)) (λ fs. Some (Instance a.0.name fs)) sh a.2 in
-    ap (λ o. o >>= λ x. fields_by g (class_variables p c) >>= λ fs. Some (Instance x.name fs)) a.1
-    ∙ ap (λ o. o >>= λ fs. Some (Instance a.0.name fs)) (fields_grow f g h (class_variables p c) b.0 b.1)
+    let a = then_some (class_at p c) (λ x. fields_by f (class_variables p c) >>= λ fs. Some (Instance c x.name fs)) sh k in
+    let b = then_some (fields_by f (class_variables p c)) (λ fs. Some (Instance c a.0.name fs)) sh a.2 in
+    ap (λ o. o >>= λ x. fields_by g (class_variables p c) >>= λ fs. Some (Instance c x.name fs)) a.1
+    ∙ ap (λ o. o >>= λ fs. Some (Instance c a.0.name fs)) (fields_grow f g h (class_variables p c) b.0 b.1)
     ∙ b.2
 shapes_grow p f g h (StType-F.Reference c) sh k = k
 shapes_grow p f g h (StType-F.Interface i) sh k = k
@@ -109,12 +109,12 @@ structure_unfolds p n x vs fs e k h =
      ∙ ap (λ o. o >>= λ ws. fields_by (shape_within p d.0) ws >>= λ gs. Some (Structure x.name gs)) k
      ∙ ap (λ o. o >>= λ gs. Some (Structure x.name gs)) d.1)
 
-instance_unfolds : (p : Program) (c : ℕ) (k : Class) (fs : Fields) → class_at p c ≡ Some k → EachUnfolds p (class_variables p c) fs → Unfolds p (type.Instance c) (Instance k.name fs)
+instance_unfolds : (p : Program) (c : ℕ) (k : Class) (fs : Fields) → class_at p c ≡ Some k → EachUnfolds p (class_variables p c) fs → Unfolds p (type.Instance c) (Instance c k.name fs)
 instance_unfolds p c k fs e h =
     let d = each_deep p (class_variables p c) fs h in
-    opened p d.0 (type.Instance c) (StType-F.Instance c) (Instance k.name fs) (type.outs-Instance c)
-    (ap (λ o. o >>= λ y. fields_by (shape_within p d.0) (class_variables p c) >>= λ gs. Some (Instance y.name gs)) e
-     ∙ ap (λ o. o >>= λ gs. Some (Instance k.name gs)) d.1)
+    opened p d.0 (type.Instance c) (StType-F.Instance c) (Instance c k.name fs) (type.outs-Instance c)
+    (ap (λ o. o >>= λ y. fields_by (shape_within p d.0) (class_variables p c) >>= λ gs. Some (Instance c y.name gs)) e
+     ∙ ap (λ o. o >>= λ gs. Some (Instance c k.name gs)) d.1)
 
 pub shape_laws : ShapeLaws
 shape_laws = record {
@@ -124,8 +124,8 @@ shape_laws = record {
   enumeration = λ p n x values e k.
       opened p 0 (type.Enumeration n) (StType-F.Enumeration n) (Enumeration x.name values) (type.outs-Enumeration n)
       (ap (λ o. o >>= λ y. values_of y.body >>= λ ws. Some (Enumeration y.name ws)) e ∙ ap (λ o. o >>= λ ws. Some (Enumeration x.name ws)) k);
-  reference = λ p c k e. opened p 0 (type.Reference c) (StType-F.Reference c) (Reference k.name) (type.outs-Reference c) (ap (option_map (λ y. Reference y.name)) e);
-  interface = λ p i name e. opened p 0 (type.Interface i) (StType-F.Interface i) (Interface name) (type.outs-Interface i) (ap (option_map Interface) e);
+  reference = λ p c k e. opened p 0 (type.Reference c) (StType-F.Reference c) (Reference c k.name) (type.outs-Reference c) (ap (option_map (λ y. Reference c y.name)) e);
+  interface = λ p i k e. opened p 0 (type.Interface i) (StType-F.Interface i) (Interface i k.name) (type.outs-Interface i) (ap (option_map (λ y. Interface i y.name)) e);
   array = λ p low high t sh u.
       opened p u.depth (type.Array low high t) (StType-F.Array low high t) (Array low (extent low high) sh) (type.outs-Array low high t) (ap (option_map (Array low (extent low high))) u.by);
   structure = structure_unfolds;

@@ -73,11 +73,11 @@ abbrev mutual
   pub init : Shape → Option (Initial Note) → Value
   init (Elementary e) i = number (number_given i)
   init (Enumeration name values) i = number (number_given i)
-  init (Reference name) i = reference None
-  init (Interface name) i = reference None
+  init (Reference c name) i = reference None
+  init (Interface k name) i = reference None
   init (Array low n sh) i = array low (elements (init sh) n (list_given i))
   init (Structure name fs) i = structure name (inits fs (fields_given i))
-  init (Instance name fs) i = instance name (inits fs (fields_given i))
+  init (Instance c name fs) i = instance name (inits fs (fields_given i))
 
   -- a variable that is not named has the initial value of its declaration
   pub inits : Fields → FieldInits Note → Members

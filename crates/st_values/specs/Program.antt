@@ -61,6 +61,16 @@ pub record Class : Type 0 where
   pub methods : List Routine
   pub body : Routine
 
+-- what a method of an interface may be given
+pub record Signature : Type 0 where
+  pub name : List ℕ
+  pub parameters : List Parameter
+
+-- an interface with its methods and those of the interfaces that it extends, the nearest of a name first
+pub record Interface : Type 0 where
+  pub name : List ℕ
+  pub methods : List Signature
+
 pub data TypeBody : Type 0 where
   an_alias : TypeBody
   an_enumeration : List (List ℕ) → TypeBody
@@ -79,8 +89,7 @@ pub record Region : Type 0 where
 pub record Program : Type 0 where
   pub types : List TypeEntry
   pub classes : List Class
-  -- the names of the interfaces
-  pub interfaces : List (List ℕ)
+  pub interfaces : List Interface
   pub functions : List Routine
   pub regions : List Region
   pub tasks : List TaskDecl

@@ -17,14 +17,14 @@ mutual
     Elementary : Elem → Shape
     -- its name and the names of its values
     Enumeration : List ℕ → List (List ℕ) → Shape
-    -- the name of the class or the interface, which is not unfolded
-    Reference : List ℕ → Shape
-    Interface : List ℕ → Shape
+    -- the number and the name of the class or the interface, which is not unfolded
+    Reference : ℕ → List ℕ → Shape
+    Interface : ℕ → List ℕ → Shape
     -- the least index, how many elements, and their shape
     Array : ℤ → ℕ → Shape → Shape
     Structure : List ℕ → Fields → Shape
-    -- the class's name and its variables, those of its bases first
-    Instance : List ℕ → Fields → Shape
+    -- the class's number and name, and its variables, those of its bases first
+    Instance : ℕ → List ℕ → Fields → Shape
 
   -- variables with the shapes of their types
   pub data Fields : Type 0 where
@@ -62,8 +62,8 @@ module _ (p : Program) where
     t ← slice_get p.types n
     values ← values_of t.body
     Some (Enumeration t.name values)
-  simple_shape (StType-F.Reference c) = option_map (λ k. Reference k.name) (class_at p c)
-  simple_shape (StType-F.Interface i) = option_map Interface (slice_get p.interfaces i)
+  simple_shape (StType-F.Reference c) = option_map (λ k. Reference c k.name) (class_at p c)
+  simple_shape (StType-F.Interface i) = option_map (λ k. Interface i k.name) (slice_get p.interfaces i)
   simple_shape _ = None
 
   -- the shape where those of the parts are known
@@ -77,7 +77,7 @@ module _ (p : Program) where
   shape_by f (StType-F.Instance c) = do
     k ← class_at p c
     fields ← fields_by f (class_variables p c)
-    Some (Instance k.name fields)
+    Some (Instance c k.name fields)
   shape_by f t = simple_shape t
 
   -- the shape of a type with at most so many arrays, structures and instances within one another
@@ -109,7 +109,7 @@ element_shape n sh (Some k) = if nat_lt k n then Some sh else None
 abbrev pub shape_part : Shape → Step → Option Shape
 shape_part (Array low n sh) (step.Element i) = element_shape n sh (place_of_index low i)
 shape_part (Structure name fs) (step.Field k) = field fs k
-shape_part (Instance name fs) (step.Field k) = field fs k
+shape_part (Instance c name fs) (step.Field k) = field fs k
 shape_part _ _ = None
 
 abbrev pub shape_at : Shape → List Step → Option Shape
@@ -130,11 +130,11 @@ abbrev mutual
   pub has_instance : Shape → Bool
   has_instance (Elementary e) = false
   has_instance (Enumeration name values) = false
-  has_instance (Reference name) = false
-  has_instance (Interface name) = false
+  has_instance (Reference c name) = false
+  has_instance (Interface i name) = false
   has_instance (Array low n sh) = has_instance sh
   has_instance (Structure name fs) = a_field_has_instance fs
-  has_instance (Instance name fs) = true
+  has_instance (Instance c name fs) = true
 
   pub a_field_has_instance : Fields → Bool
   a_field_has_instance no_fields = false
@@ -148,16 +148,16 @@ same_names _ _ = false
 abbrev pub same_elem : Elem → Elem → Bool
 same_elem a b = same (elem_name a) (elem_name b)
 
--- whether two shapes are equal; initial values and marks are no part of a shape
+-- whether two shapes are equal, by names; initial values, marks and numbers are no part of a shape
 abbrev mutual
   pub same_shape : Shape → Shape → Bool
   same_shape (Elementary a) (Elementary b) = same_elem a b
   same_shape (Enumeration n vs) (Enumeration m ws) = same n m && same_names vs ws
-  same_shape (Reference n) (Reference m) = same n m
-  same_shape (Interface n) (Interface m) = same n m
+  same_shape (Reference c n) (Reference d m) = same n m
+  same_shape (Interface i n) (Interface j m) = same n m
   same_shape (Array low n sh) (Array low' n' sh') = int_eq low low' && (nat_eq n n' && same_shape sh sh')
   same_shape (Structure n fs) (Structure m gs) = same n m && same_fields fs gs
-  same_shape (Instance n fs) (Instance m gs) = same n m && same_fields fs gs
+  same_shape (Instance c n fs) (Instance d m gs) = same n m && same_fields fs gs
   same_shape _ _ = false
 
   pub same_fields : Fields → Fields → Bool

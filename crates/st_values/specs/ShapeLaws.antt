@@ -3,8 +3,9 @@ use Rattle.std.specs.Prelude.{◌≡◌, ℕ, suc, ℤ, List, [], ◌∷◌, Opt
 use Rattle.st_types.specs.declared.elem.Elem.{Elem}
 use Rattle.st_types.specs.declared.st_type.StType.{StType}
 use Rattle.st_types.specs.declared.st_type.StType.TheVariants as type
-use Rattle.st_values.specs.Program.{Variable, Class, TypeEntry, Program, class_at, class_variables}
-use Rattle.st_values.specs.Shape.{Shape, Elementary, Enumeration, Reference, Interface, Array, Structure, Instance, Fields, no_fields, field_then, extent, values_of, fields_of, shape_within}
+use Rattle.st_values.specs.Program.{Variable, Class, Interface, TypeEntry, Program, class_at, class_variables}
+use Rattle.st_values.specs.Shape as shape
+use Rattle.st_values.specs.Shape.{Shape, Elementary, Enumeration, Reference, Array, Structure, Instance, Fields, no_fields, field_then, extent, values_of, fields_of, shape_within}
 
 -- the type unfolds to this
 pub record Unfolds (p : Program) (t : StType) (sh : Shape) : Type 0 where
@@ -22,8 +23,8 @@ pub record ShapeLaws : Type 0 where
   pub once : (p : Program) (t : StType) (a b : Shape) → Unfolds p t a → Unfolds p t b → a ≡ b
   pub elementary : (p : Program) (e : Elem) → Unfolds p (type.Elementary e) (Elementary e)
   pub enumeration : (p : Program) (n : ℕ) (x : TypeEntry) (values : List (List ℕ)) → slice_get p.types n ≡ Some x → values_of x.body ≡ Some values → Unfolds p (type.Enumeration n) (Enumeration x.name values)
-  pub reference : (p : Program) (c : ℕ) (k : Class) → class_at p c ≡ Some k → Unfolds p (type.Reference c) (Reference k.name)
-  pub interface : (p : Program) (i : ℕ) (name : List ℕ) → slice_get p.interfaces i ≡ Some name → Unfolds p (type.Interface i) (Interface name)
+  pub reference : (p : Program) (c : ℕ) (k : Class) → class_at p c ≡ Some k → Unfolds p (type.Reference c) (Reference c k.name)
+  pub interface : (p : Program) (i : ℕ) (k : Interface) → slice_get p.interfaces i ≡ Some k → Unfolds p (type.Interface i) (shape.Interface i k.name)
   pub array : (p : Program) (low high : ℤ) (t : StType) (sh : Shape) → Unfolds p t sh → Unfolds p (type.Array low high t) (Array low (extent low high) sh)
   pub structure : (p : Program) (n : ℕ) (x : TypeEntry) (vs : List Variable) (fs : Fields) → slice_get p.types n ≡ Some x → fields_of x.body ≡ Some vs → EachUnfolds p vs fs → Unfolds p (type.Structure n) (Structure x.name fs)
-  pub instance : (p : Program) (c : ℕ) (k : Class) (fs : Fields) → class_at p c ≡ Some k → EachUnfolds p (class_variables p c) fs → Unfolds p (type.Instance c) (Instance k.name fs)
+  pub instance : (p : Program) (c : ℕ) (k : Class) (fs : Fields) → class_at p c ≡ Some k → EachUnfolds p (class_variables p c) fs → Unfolds p (type.Instance c) (Instance c k.name fs)

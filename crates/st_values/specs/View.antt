@@ -14,6 +14,7 @@ use Rattle.st_tree.specs.declared.declaration.Member.{Member}
 use Rattle.st_tree.specs.declared.declaration.Member.TheVariants as member
 use Rattle.st_tree.specs.declared.declaration.Method.{Method}
 use Rattle.st_tree.specs.declared.declaration.ProgramDecl.{ProgramDecl}
+use Rattle.st_tree.specs.declared.declaration.Prototype.{Prototype}
 use Rattle.st_tree.specs.declared.declaration.Section.{Section}
 use Rattle.st_tree.specs.declared.declaration.SectionSort.{SectionSort}
 use Rattle.st_tree.specs.declared.declaration.SectionSort.TheVariants as sort
@@ -33,8 +34,8 @@ use Rattle.st_tree.specs.declared.type_spec.TypeSpec.{TypeSpec}
 use Rattle.st_tree.specs.Initial.{Initial, initial_of}
 use Rattle.st_tree.specs.Reads.{no_marks}
 use Rattle.st_tree.specs.Statement.{Statements, statements_of}
-use Rattle.st_values.specs.Rules.{chain, conforms, methods_in, is_constant}
-use Rattle.st_values.specs.Program.{Variable, Recipient, to_local, to_variable, Parameter, Routine, Sort, a_class, a_block, a_program, Class, TypeBody, an_alias, an_enumeration, a_structure, TypeEntry, Region, Program}
+use Rattle.st_values.specs.Rules.{chain, conforms, extends, methods_in, is_constant}
+use Rattle.st_values.specs.Program.{Variable, Recipient, to_local, to_variable, Parameter, Routine, Sort, a_class, a_block, a_program, Class, Signature, Interface, TypeBody, an_alias, an_enumeration, a_structure, TypeEntry, Region, Program}
 
 -- ---- types and variables
 
@@ -190,6 +191,21 @@ programs_from c (d ∷ ds) =
     }
     ∷ programs_from (suc c) ds
 
+-- ---- interfaces
+
+abbrev pub signature_of : Prototype Note → Signature
+signature_of m = record { name = m.name.text; parameters = local_parameters (length (result_of m.name.text m.result)) (those is_parameter (variables_in m.sections)) }
+
+-- of the interfaces from number j on that interface i extends
+abbrev pub extended_signatures : List (InterfaceDecl Note) → ℕ → ℕ → List (InterfaceDecl Note) → List Signature
+extended_signatures interfaces i j [] = []
+extended_signatures interfaces i j (d ∷ ds) = (if extends interfaces i j then map signature_of d.methods else []) ++ extended_signatures interfaces i (suc j) ds
+
+abbrev pub interfaces_from : List (InterfaceDecl Note) → ℕ → List (InterfaceDecl Note) → List Interface
+interfaces_from interfaces i [] = []
+interfaces_from interfaces i (d ∷ ds) =
+    record { name = d.name.text; methods = map signature_of d.methods ++ extended_signatures interfaces i 0 interfaces } ∷ interfaces_from interfaces (suc i) ds
+
 -- ---- the program
 
 abbrev pub texts : List Name → List (List ℕ)
@@ -222,7 +238,7 @@ abbrev pub program_of : CheckedProgram → Program
 program_of p = record {
   types = map type_entry p.types;
   classes = classes_from p.classes p.interfaces 0 p.classes ++ programs_from (length p.classes) p.programs;
-  interfaces = map (λ i. i.name.text) p.interfaces;
+  interfaces = interfaces_from p.interfaces 0 p.interfaces;
   functions = map function_of p.functions;
   regions = map region_of p.regions;
   tasks = p.tasks;

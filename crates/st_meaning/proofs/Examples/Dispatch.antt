@@ -50,7 +50,7 @@ sample body = record {
        ∷ located (codes "X") int (codes "%QW0") ∷ located (codes "N") int (codes "%QW1") ∷ [])
       body
       ∷ [];
-  interfaces = codes "IV" ∷ [];
+  interfaces = record { name = codes "IV"; methods = record { name = codes "V"; parameters = [] } ∷ [] } ∷ [];
   functions = [];
   regions = instance_of (codes "P1") 3 ∷ [];
   tasks = task (codes "MAIN") (0 ∷ []) ∷ [];
