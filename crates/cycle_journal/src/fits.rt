@@ -1,12 +1,13 @@
 //! Whether an entry is one for the plays.
+
 ghost use Rattle.std.specs.Prelude.{◌≡◌, ◌↔◌, IsTrue};
-ghost use Rattle.cycle_journal.specs.Journal.{may_answer as may_answer_of, is_declaration as is_declaration_of, FitsAnswer, FitsEntry};
+ghost use Rattle.cycle_journal.specs.Fits.{may_answer as may_answer_of, is_declaration as is_declaration_of, FitsAnswer, FitsEntry};
 
 use crate::entry::{Answer, Entry};
-use crate::names::is_name;
 use crate::outputs::OUTPUT_LIMIT;
 use crate::play::Play;
 use crate::writing::play_numbered;
+use plc_text::is_upper_word;
 
 /// Whether the entry is one for these plays.
 pub fn fits(plays: &[Play], entry: &Entry) -> bool
@@ -63,5 +64,5 @@ fn fits_answer(version: u32, answer: &Answer) -> bool
 fn is_declaration(text: &str) -> bool
     ensures { result ≡ is_declaration_of text.now }
 {
-    text == "-" || is_name(text.as_bytes())
+    text == "-" || is_upper_word(text.as_bytes())
 }

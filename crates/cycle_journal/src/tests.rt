@@ -1,3 +1,5 @@
+//! Journals by example: their texts, and texts that are none.
+
 use crate::{Answer, Entry, JournalError, Outputs, Play, are_named, journal_text, read_journal};
 use plc_text::{Code, Fault, FaultKind, Items, NoMemory, Refusal, Text};
 use std::alloc::{AllocError, Global};
