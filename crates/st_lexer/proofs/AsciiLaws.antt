@@ -10,7 +10,8 @@ use Rattle.std.specs.List.{list_all, take_while}
 use Rattle.st_tree.specs.declared.token.TokenKind.{TokenKind}
 use Rattle.st_tree.specs.declared.token.TokenKind.TheVariants.{Mark}
 use Rattle.plc_text.specs.Words.{is_one_of, spells, opens, begins, behind_all, is_blank, is_digit, is_binary_digit, is_octal_digit, is_hexadecimal_digit, is_letter, is_word_character, is_word, is_number}
-use Rattle.st_tree.specs.Pieces.{is_white_space, is_comment, is_pragma, ends_first, are_spaced, are_split, is_bit_place, is_int, begins_part, behind_part, is_underscore, behind_underscore, is_empty, are_parts, units, is_time, is_point, is_location, is_address, opens_one_of, is_whole_word, is_whole_symbol, is_symbol, symbols, is_piece}
+use Rattle.st_tree.specs.Pieces.{is_white_space, is_comment, is_pragma, ends_first, are_spaced, are_split, is_bit_place, is_int, begins_part, behind_part, is_underscore, behind_underscore, is_empty, are_parts, units, is_time, is_point, is_location, is_address, opens_one_of, is_whole_word, is_whole_symbol, is_piece}
+use Rattle.st_tree.specs.Terminal.{is_symbol, symbols, symbol_terminals}
 use Rattle.st_tree.specs.Marks.{inside, behind_blanks, is_attribute, is_no_copy, is_init_on_change, behind_renamed, is_renamed, is_mark}
 use Rattle.st_tree.specs.Tokens.{piece_kind}
 use Rattle.st_lexer.proofs.HeadLaws.{opens_long}
@@ -208,6 +209,7 @@ address_low text h =
     opened_any_low 2 (codes "%I" ∷ codes "%Q" ∷ codes "%M" ∷ []) text refl refl parts.0 (location_low (drop 2 text) parts.1)
 
 symbol_low : (text : List ℕ) → is_symbol text ≡ true → low text ≡ true
+unfolding symbol_terminals
 symbol_low text h = among_low symbols text refl h
 
 -- marks

@@ -7,8 +7,8 @@ use Rattle.std.specs.Char.{to_ascii_uppercase}
 use Rattle.std.specs.List.{list_all, prefix_len, AllByRecursion}
 use Rattle.st_tree.specs.declared.token.TokenKind.TheVariants.{Word, Keyword, Symbol}
 use Rattle.plc_text.specs.Words.{is_one_of, spells, begins, is_letter, is_word, is_word_character}
-use Rattle.st_tree.specs.Words.{is_keyword}
-use Rattle.st_tree.specs.Pieces.{is_white_space, is_comment, is_pragma, is_int, is_time, is_address, is_whole_word, is_whole_symbol, is_symbol, symbols, is_piece}
+use Rattle.st_tree.specs.Terminal.{is_keyword, is_symbol, symbols, symbol_terminals}
+use Rattle.st_tree.specs.Pieces.{is_white_space, is_comment, is_pragma, is_int, is_time, is_address, is_whole_word, is_whole_symbol, is_piece}
 use Rattle.st_tree.specs.Tokens.{piece_kind}
 use Rattle.st_lexer.specs.Fronts.{IsLongest}
 use Rattle.st_lexer.specs.Reach.{white_len, comment_len, pragma_len, int_len, time_len, address_len, word_len, reaches_of, longest_of, kind_of}
@@ -45,6 +45,7 @@ among_no_word (word ∷ words) text all h = elim (or_cases (spells word text) _ 
 ]
 
 symbol_no_word : (text : List ℕ) → is_symbol text ≡ true → is_word text ≡ false
+unfolding symbol_terminals
 symbol_no_word text h = among_no_word symbols text (
   refl,
   (

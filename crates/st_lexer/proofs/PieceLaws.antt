@@ -5,7 +5,8 @@ use Rattle.std.proofs.lemmas.List.{take-append-drop}
 use Rattle.std.specs.List.{prefix_len, AllByRecursion}
 use Rattle.std.proofs.lemmas.List.Sums.{prefix_len-le-length}
 use Rattle.plc_text.specs.Words.{is_one_of, spells, begins, is_letter, is_word_character}
-use Rattle.st_tree.specs.Pieces.{is_whole_word, is_whole_symbol, is_symbol, symbols, opens_comment, is_number_sign, is_piece}
+use Rattle.st_tree.specs.Pieces.{is_whole_word, is_whole_symbol, opens_comment, is_number_sign, is_piece}
+use Rattle.st_tree.specs.Terminal.{is_symbol, symbols, symbol_terminals}
 use Rattle.st_lexer.specs.Fronts.{IsLongest, IsLongestFront}
 use Rattle.st_lexer.specs.Reach.{word_len, symbol_len, reaches_of, longest_of}
 use Rattle.st_lexer.proofs.HeadLaws.{spells_long, alone, either_front}
@@ -83,6 +84,7 @@ no_long (word ∷ words) text all long = or_from _ _
     (no_long words text all.1 long)
 
 no_long_symbol : (text : List ℕ) → 2 < length text → is_symbol text ≡ false
+unfolding symbol_terminals
 no_long_symbol text long = no_long symbols text (
   omega arith,
   (
@@ -146,6 +148,7 @@ no_long_symbol text long = no_long symbols text (
 ) long
 
 symbol_some : (text : List ℕ) → is_symbol text ≡ true → 0 < length text
+unfolding symbol_terminals
 symbol_some [] h = absurd (both_ways false refl h)
 symbol_some (c ∷ cs) h = omega arith
 

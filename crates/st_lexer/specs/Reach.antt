@@ -7,8 +7,8 @@ use Rattle.st_tree.specs.declared.token.TokenKind.TheVariants.{Word, Keyword, In
 use Rattle.st_lexer.specs.declared.piece.Reaches.{Reaches}
 use Rattle.st_tree.specs.Marks.{is_mark, behind_blanks}
 use Rattle.plc_text.specs.Words.{behind_all, is_one_of, opens, begins, is_blank, is_digit, is_binary_digit, is_octal_digit, is_hexadecimal_digit, is_letter, is_word_character}
-use Rattle.st_tree.specs.Words.{is_name, is_keyword}
-use Rattle.st_tree.specs.Pieces.{is_no_line_feed, opens_one_of, opens_comment, is_number_sign, is_underscore, is_symbol, units}
+use Rattle.st_tree.specs.Terminal.{is_name, is_keyword, is_symbol}
+use Rattle.st_tree.specs.Pieces.{is_no_line_feed, opens_one_of, opens_comment, is_number_sign, is_underscore, units}
 
 -- a head and what stands behind it, or nothing where nothing stands behind it
 abbrev pub with_head : ℕ → ℕ → ℕ

@@ -2,10 +2,11 @@ ghost use Rattle.std.specs.Prelude.{◌≡◌, ◌==◌, ◌≤◌, length, IsTr
 ghost use Rattle.std.specs.Str.{IsAscii};
 ghost use Rattle.std.specs.List.{prefix_len, list_any};
 ghost use Rattle.plc_text.specs.Words as words_spec;
-ghost use Rattle.st_tree.specs.Words.{is_keyword as is_keyword_of};
-ghost use Rattle.st_tree.specs.Pieces.{is_symbol as is_symbol_of, opens_comment as opens_comment_of};
+ghost use Rattle.st_tree.specs.Terminal.{is_symbol as is_symbol_of};
+ghost use Rattle.st_tree.specs.Pieces.{opens_comment as opens_comment_of};
 ghost use Rattle.st_lexer.specs.Classes.{test_of};
 
+use st_tree::symbol;
 use std::str;
 
 /// Characters of one kind.
@@ -123,118 +124,8 @@ pub(crate) fn opens_comment(text: &[u8]) -> bool
     opens(text, b"(*") || opens(text, b"/*") || opens(text, b"//")
 }
 
-const SYMBOLS: [&str; 25] = [
-    ":=", "?=", "=>", "..", "<=", ">=", "<>", ":", ";", ",", ".", "(", ")", "[", "]", "^", "#",
-    "+", "-", "*", "/", "=", "<", ">", "&",
-];
-
 pub(crate) fn is_symbol(text: &[u8]) -> bool
     ensures { result ≡ is_symbol_of text.now }
 {
-    is_one_of(text, &SYMBOLS)
-}
-
-/// The words of the language's grammar and its elementary types.
-const KEYWORDS: [&str; 95] = [
-    "ABSTRACT",
-    "AND",
-    "AND_THEN",
-    "ARRAY",
-    "AT",
-    "BOOL",
-    "BY",
-    "BYTE",
-    "CASE",
-    "CLASS",
-    "CONFIGURATION",
-    "CONSTANT",
-    "CONTINUE",
-    "DINT",
-    "DO",
-    "DWORD",
-    "ELSE",
-    "ELSIF",
-    "END_CASE",
-    "END_CLASS",
-    "END_CONFIGURATION",
-    "END_FOR",
-    "END_FUNCTION",
-    "END_FUNCTION_BLOCK",
-    "END_IF",
-    "END_INTERFACE",
-    "END_METHOD",
-    "END_PROGRAM",
-    "END_REPEAT",
-    "END_RESOURCE",
-    "END_STRUCT",
-    "END_TYPE",
-    "END_VAR",
-    "END_WHILE",
-    "EXIT",
-    "EXTENDS",
-    "FALSE",
-    "FINAL",
-    "FOR",
-    "FUNCTION",
-    "FUNCTION_BLOCK",
-    "IF",
-    "IMPLEMENTS",
-    "INT",
-    "INTERFACE",
-    "INTERNAL",
-    "LINT",
-    "LWORD",
-    "METHOD",
-    "MOD",
-    "NON_RETAIN",
-    "NOT",
-    "NULL",
-    "OF",
-    "ON",
-    "OR",
-    "OR_ELSE",
-    "OVERRIDE",
-    "PERSISTENT",
-    "PRIVATE",
-    "PROGRAM",
-    "PROTECTED",
-    "PUBLIC",
-    "REF",
-    "REF_TO",
-    "REPEAT",
-    "RESOURCE",
-    "RETAIN",
-    "RETURN",
-    "SINT",
-    "STRUCT",
-    "SUPER",
-    "TASK",
-    "THEN",
-    "THIS",
-    "TIME",
-    "TO",
-    "TRUE",
-    "TYPE",
-    "UDINT",
-    "UINT",
-    "ULINT",
-    "UNTIL",
-    "USINT",
-    "VAR",
-    "VAR_EXTERNAL",
-    "VAR_GLOBAL",
-    "VAR_INPUT",
-    "VAR_IN_OUT",
-    "VAR_OUTPUT",
-    "VAR_TEMP",
-    "WHILE",
-    "WITH",
-    "WORD",
-    "XOR",
-];
-
-pub(crate) fn is_keyword(word: &[u8]) -> bool
-    ensures { result ≡ is_keyword_of word.now }
-{
-    is_one_of(word, &KEYWORDS)
+    symbol(text).is_some()
 }

@@ -2,11 +2,12 @@
 ghost use Rattle.std.specs.Prelude.{◌≡◌, ◌↔◌, true, IsSome, IfSome};
 ghost use Rattle.std.specs.List.{list_all, take_while};
 ghost use Rattle.plc_text.specs.Words.{behind_all, is_blank, is_word_character, is_word as is_word_of};
-ghost use Rattle.st_tree.specs.Words.{is_name as is_name_of};
+ghost use Rattle.st_tree.specs.Terminal.{is_name as is_name_of};
 ghost use Rattle.st_tree.specs.Marks as marks;
 ghost use Rattle.st_lexer.specs.Reach.{names as names_of};
 
-use crate::characters::{Class, ascii, begins, begins_letter, is_keyword, opens, run};
+use crate::characters::{Class, ascii, begins, begins_letter, opens, run};
+use st_tree::is_keyword;
 
 /// What stands between the braces.
 fn inside(pragma: &[u8]) -> &[u8]

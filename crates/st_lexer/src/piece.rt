@@ -4,12 +4,11 @@ ghost use Rattle.st_tree.specs.Tokens.{piece_kind};
 ghost use Rattle.st_lexer.specs.Fronts.{IsLongestFront};
 ghost use Rattle.st_lexer.specs.Reach.{reaches_of, longest_of, kind_of};
 
-use crate::characters::is_keyword;
 use crate::marks::is_mark;
 use crate::reach::{
     address_len, comment_len, int_len, pragma_len, symbol_len, time_len, white_len, word_len,
 };
-use st_tree::TokenKind;
+use st_tree::{TokenKind, is_keyword};
 
 /// How far each form of piece reaches from the front of a text.
 #[derive(Clone, Copy)]

@@ -12,14 +12,15 @@ use Rattle.st_tree.specs.declared.expression.Expr.{Expr}
 use Rattle.st_tree.specs.declared.expression.Selector.{Selector as CodeSelector}
 use Rattle.st_tree.specs.declared.expression.Argument.{Argument as CodeArgument}
 use Rattle.st_tree.specs.declared.expression.Tail.{Tail}
-use Rattle.st_tree.specs.ExpressionView.{expression_of, selector_of, argument_of, tail_of, expressions_of, selectors_of, arguments_of, tails_of, tail_of-note, tail_of-operator, tail_of-operand}
-use Rattle.st_tree.specs.Plain.{Expression, int, typed, time, true_value, false_value, null, place, call, enumerator, ref, now, paren, complement, minus, chain, Expressions, no_expressions, expression_then, Selector, field, index, target, Selectors, no_selectors, selector_then, Argument, positional, input, output, Arguments, no_arguments, argument_then, Tails, no_tails, tail_then}
+use Rattle.st_tree.specs.Expression.{expression_of, selector_of, argument_of, tail_of, expressions_of, selectors_of, arguments_of, tails_of, tail_of-note, tail_of-operator, tail_of-operand}
+use Rattle.st_tree.specs.Expression as expr
+use Rattle.st_tree.specs.Expression.{Expression, Expressions, no_expressions, expression_then, Selector, Selectors, no_selectors, selector_then, Argument, Arguments, no_arguments, argument_then, Tails, no_tails, tail_then}
 use Rattle.st_tree.specs.Grammar.{Lexeme, At, NotNext, ◌⋆◌, lexeme, sign, spelled, word, operator_of, level, operator_at, literal, root, expression, first_tail, tails, selectors, selector, first_expression, more_expressions, arguments, more_arguments, argument}
 use Rattle.st_parser_expr.specs.declared.stop.Stop.{Stop}
 use Rattle.st_parser_expr.specs.declared.stop.Stop.TheVariants.{Left, NoMemory}
 use Rattle.st_parser_expr.specs.declared.stop.Naming.TheVariants as naming
-use Rattle.st_parser_expr.specs.Machine.{Follow, calls, reference_end, arguments_end, operand, more_tails, selecting, behind_name, root_next, behind_kind, comma_or_bracket, first_argument, argument_next, behind_argument, comma_or_close, State, go_on, on_root, machine, NoOperator, NoSelector, NoNaming, IsNoNaming, Looser}
-use Rattle.st_parser_expr.specs.Promises.{next_terminal, TextTaken, LineOf, if_level, next_operator_at, is_hash, is_enumerator_by, is_enumerator, naming_behind, naming_by, naming_of, is_root, Fails, Passes, Reads, Selects, SelectFails, same, for_expr, for_operand, for_tails, for_selectors, for_indices, for_more_indices, for_arguments, for_argument, for_more, for_root, for_name, for_literal, for_close, for_reference}
+use Rattle.st_parser_expr.specs.Private.Machine.{Follow, calls, reference_end, arguments_end, operand, more_tails, selecting, behind_name, root_next, behind_kind, comma_or_bracket, first_argument, argument_next, behind_argument, comma_or_close, State, go_on, on_root, machine, NoOperator, NoSelector, NoNaming, IsNoNaming, Looser}
+use Rattle.st_parser_expr.specs.Private.Promises.{next_terminal, TextTaken, LineOf, if_level, next_operator_at, is_hash, is_enumerator_by, is_enumerator, naming_behind, naming_by, naming_of, is_root, Fails, Passes, Parses, Selects, SelectFails, same, for_expr, for_operand, for_tails, for_selectors, for_indices, for_more_indices, for_arguments, for_argument, for_more, for_root, for_name, for_literal, for_close, for_reference}
 use Rattle.st_parser_expr.proofs.MachineLaws.{on-sign, signed, machine-more_tails, machine-calls, machine-sent, machine-referred, machine-behind_name, Positional, machine-argument, machine-first_argument}
 use Rattle.st_parser_expr.proofs.Passes.{machine-operator}
 use Rattle.st_parser_expr.proofs.Groups.{note-is, expression-looser}
@@ -37,28 +38,28 @@ taken s n (u ∷ ts) us h (t, is, w) = let same_terminal : u.terminal ≡ s = cc
 line_at : (P : Lexeme → Type 0) (line : ℕ) (ts rest : List Lexeme) → LineOf ts line → lexeme P ts rest → At line ts
 line_at P line ts rest h (t, is, w) = let h' = rw w at h in rw w h'
 
-line_sign : (s : Terminal) (line : ℕ) (ts rest : List Lexeme) → LineOf ts line → sign s ts rest → At line ts
+pub line_sign : (s : Terminal) (line : ℕ) (ts rest : List Lexeme) → LineOf ts line → sign s ts rest → At line ts
 line_sign s line ts rest h w = line_at (λ t. t.terminal ≡ s) line ts rest h w
 
-line_spelled : (s : Terminal) (n : List ℕ) (line : ℕ) (ts rest : List Lexeme) → LineOf ts line → spelled s n ts rest → At line ts
+pub line_spelled : (s : Terminal) (n : List ℕ) (line : ℕ) (ts rest : List Lexeme) → LineOf ts line → spelled s n ts rest → At line ts
 line_spelled s n line ts rest h w = line_at (λ t. (t.terminal ≡ s) × (t.text ≡ n)) line ts rest h w
 
-line_root : (r : Root ℕ) (line : ℕ) (ts rest : List Lexeme) → LineOf ts line → root r ts rest → At line ts
+pub line_root : (r : Root ℕ) (line : ℕ) (ts rest : List Lexeme) → LineOf ts line → root r ts rest → At line ts
 line_root (roots.Name l n) line ts rest h (a, w) = line_spelled x.Word n line ts rest h w
 line_root (roots.This l) line ts rest h (a, w) = line_sign x.This line ts rest h w
 line_root (roots.Super l) line ts rest h (a, w) = line_sign x.Super line ts rest h w
 
-line_noted : (line note : ℕ) (ts : List Lexeme) → LineOf ts line → At note ts → At line ts
+pub line_noted : (line note : ℕ) (ts : List Lexeme) → LineOf ts line → At note ts → At line ts
 line_noted line note [] h a = absurd a
 line_noted line note (t ∷ ts) h a = h
 
-lexeme_shorter : (P : Lexeme → Type 0) (ts rest : List Lexeme) → lexeme P ts rest → length ts ≡ suc (length rest)
+pub lexeme_shorter : (P : Lexeme → Type 0) (ts rest : List Lexeme) → lexeme P ts rest → length ts ≡ suc (length rest)
 lexeme_shorter P ts rest (t, is, w) = ap length w
 
 pub sign-shorter : (s : Terminal) (ts rest : List Lexeme) → sign s ts rest → length ts ≡ suc (length rest)
 sign-shorter s ts rest h = lexeme_shorter (λ t. t.terminal ≡ s) ts rest h
 
-spelled-shorter : (s : Terminal) (n : List ℕ) (ts rest : List Lexeme) → spelled s n ts rest → length ts ≡ suc (length rest)
+pub spelled-shorter : (s : Terminal) (n : List ℕ) (ts rest : List Lexeme) → spelled s n ts rest → length ts ≡ suc (length rest)
 spelled-shorter s n ts rest h = lexeme_shorter (λ t. (t.terminal ≡ s) × (t.text ≡ n)) ts rest h
 
 -- ---- exits
@@ -72,36 +73,36 @@ select_fails_after w f g ts m s p h = fails_after w (for_selectors f) g ts m s p
 
 -- ---- operands without parts
 
-pub seen : (l : ℕ) (v w : Expression ℕ) (wanted later : State → State) (ts rest : List Lexeme) → v ≡ w → Reads (expression w l) wanted later ts rest → Reads (expression v l) wanted later ts rest
+pub seen : (l : ℕ) (v w : Expression ℕ) (wanted later : State → State) (ts rest : List Lexeme) → v ≡ w → Parses (expression w l) wanted later ts rest → Parses (expression v l) wanted later ts rest
 seen l v w wanted later ts rest e r = rw e r
 
-pub reads-int : (line : ℕ) (n : List ℕ) (old rest : List Lexeme) → LineOf old line → next_terminal old ≡ Some x.Int → TextTaken n old rest → Reads (expression (int line n) 7) for_operand same old rest
+pub reads-int : (line : ℕ) (n : List ℕ) (old rest : List Lexeme) → LineOf old line → next_terminal old ≡ Some x.Int → TextTaken n old rest → Parses (expression (expr.Int line n) 7) for_operand same old rest
 reads-int line n old rest at h t =
     let w = taken x.Int n old rest h t in
     record { spelled = (line_spelled x.Int n line old rest at w, w); passes = λ k. on-sign (operand ∷ k) x.Int old rest (signed x.Int n old rest w); shorter = omega (arith, spelled-shorter x.Int n old rest w) }
 
-pub reads-time : (line : ℕ) (n : List ℕ) (old rest : List Lexeme) → LineOf old line → next_terminal old ≡ Some x.Duration → TextTaken n old rest → Reads (expression (time line n) 7) for_operand same old rest
+pub reads-time : (line : ℕ) (n : List ℕ) (old rest : List Lexeme) → LineOf old line → next_terminal old ≡ Some x.Duration → TextTaken n old rest → Parses (expression (expr.Time line n) 7) for_operand same old rest
 reads-time line n old rest at h t =
     let w = taken x.Duration n old rest h t in
     record { spelled = (line_spelled x.Duration n line old rest at w, w); passes = λ k. on-sign (operand ∷ k) x.Duration old rest (signed x.Duration n old rest w); shorter = omega (arith, spelled-shorter x.Duration n old rest w) }
 
-pub reads-true : (line : ℕ) (old rest : List Lexeme) → LineOf old line → next_terminal old ≡ Some x.True → rest ≡ drop 1 old → Reads (expression (true_value line) 7) for_operand same old rest
+pub reads-true : (line : ℕ) (old rest : List Lexeme) → LineOf old line → next_terminal old ≡ Some x.True → rest ≡ drop 1 old → Parses (expression (expr.True line) 7) for_operand same old rest
 reads-true line old rest at h e =
     let w = sign_at x.True old rest h e in
     record { spelled = (line_sign x.True line old rest at w, w); passes = λ k. on-sign (operand ∷ k) x.True old rest w; shorter = omega (arith, sign-shorter x.True old rest w) }
 
-pub reads-false : (line : ℕ) (old rest : List Lexeme) → LineOf old line → next_terminal old ≡ Some x.False → rest ≡ drop 1 old → Reads (expression (false_value line) 7) for_operand same old rest
+pub reads-false : (line : ℕ) (old rest : List Lexeme) → LineOf old line → next_terminal old ≡ Some x.False → rest ≡ drop 1 old → Parses (expression (expr.False line) 7) for_operand same old rest
 reads-false line old rest at h e =
     let w = sign_at x.False old rest h e in
     record { spelled = (line_sign x.False line old rest at w, w); passes = λ k. on-sign (operand ∷ k) x.False old rest w; shorter = omega (arith, sign-shorter x.False old rest w) }
 
-pub reads-null : (line : ℕ) (old rest : List Lexeme) → LineOf old line → next_terminal old ≡ Some x.Null → rest ≡ drop 1 old → Reads (expression (null line) 7) for_operand same old rest
+pub reads-null : (line : ℕ) (old rest : List Lexeme) → LineOf old line → next_terminal old ≡ Some x.Null → rest ≡ drop 1 old → Parses (expression (expr.Null line) 7) for_operand same old rest
 reads-null line old rest at h e =
     let w = sign_at x.Null old rest h e in
     record { spelled = (line_sign x.Null line old rest at w, w); passes = λ k. on-sign (operand ∷ k) x.Null old rest w; shorter = omega (arith, sign-shorter x.Null old rest w) }
 
 pub reads-typed : (line : ℕ) (e : Elem) (v : Literal) (old m m' rest : List Lexeme) → LineOf old line → next_terminal old ≡ Some (x.Kind e) → m ≡ drop 1 old → next_terminal m ≡ Some x.Hash → m' ≡ drop 1 m
-    → Reads (literal v) for_literal same m' rest → Reads (expression (typed line e v) 7) for_operand same old rest
+    → Parses (literal v) for_literal same m' rest → Parses (expression (expr.Typed line e v) 7) for_operand same old rest
 reads-typed line e v old m m' rest at h is h' is' r =
     let w = sign_at (x.Kind e) old m h is in
     let w' = sign_at x.Hash m m' h' is' in
@@ -112,7 +113,7 @@ reads-typed line e v old m m' rest at h is h' is' r =
     }
 
 pub reads-now : (line : ℕ) (e : Elem) (old m rest : List Lexeme) → LineOf old line → next_terminal old ≡ Some (x.Kind e) → m ≡ drop 1 old → e ≡ kind.Time
-    → Reads (sign x.Open ⋆ sign x.Close) (λ k. behind_kind e ∷ k) same m rest → Reads (expression (now line) 7) for_operand same old rest
+    → Parses (sign x.Open ⋆ sign x.Close) (λ k. behind_kind e ∷ k) same m rest → Parses (expression (expr.Now line) 7) for_operand same old rest
 reads-now line e old m rest at h is is_time r =
     let w = sign_at (x.Kind e) old m h is in
     let w' = subst (λ u. sign (x.Kind u) old m) is_time w in
@@ -147,7 +148,7 @@ some-next s [] h = cc
 some-next s (t ∷ ts) h = omega arith
 
 pub reads-enumerator : (line : ℕ) (n : List ℕ) (later : ℕ) (v : List ℕ) (old m m' rest : List Lexeme) → is_enumerator old ≡ true → LineOf old line → TextTaken n old m → m' ≡ drop 1 m → LineOf m' later
-    → Reads (word v) for_name same m' rest → Reads (expression (enumerator line n later v) 7) for_operand same old rest
+    → Parses (word v) for_name same m' rest → Parses (expression (expr.Enumerator line n later v) 7) for_operand same old rest
 reads-enumerator line n later v old m m' rest is at t is' at' r =
     let w = taken x.Word n old m (enumerator_word old is) t in
     let w' = sign_at x.Hash m m' (subst (λ u. next_terminal u ≡ Some x.Hash) (behind_taken n old m t) (enumerator_hash old is)) is' in
@@ -165,14 +166,14 @@ passes-enumerator n old m m' is t is' k =
 
 -- ---- operands with parts
 
-pub reads-minus : (line : ℕ) (e : Expression ℕ) (old m rest : List Lexeme) → LineOf old line → next_terminal old ≡ Some x.Minus → m ≡ drop 1 old → Reads (expression e 7) for_operand same m rest
-    → Reads (expression (minus line e) 7) for_operand same old rest
+pub reads-minus : (line : ℕ) (e : Expression ℕ) (old m rest : List Lexeme) → LineOf old line → next_terminal old ≡ Some x.Minus → m ≡ drop 1 old → Parses (expression e 7) for_operand same m rest
+    → Parses (expression (expr.Negate line e) 7) for_operand same old rest
 reads-minus line e old m rest at h is r =
     let w = sign_at x.Minus old m h is in
     record { spelled = (line_sign x.Minus line old m at w, (m, w, r.spelled)); passes = λ k. on-sign (operand ∷ k) x.Minus old m w ∙ r.passes k; shorter = omega (arith, r.shorter, sign-shorter x.Minus old m w) }
 
-pub reads-complement : (line : ℕ) (e : Expression ℕ) (old m rest : List Lexeme) → LineOf old line → next_terminal old ≡ Some x.Not → m ≡ drop 1 old → Reads (expression e 7) for_operand same m rest
-    → Reads (expression (complement line e) 7) for_operand same old rest
+pub reads-complement : (line : ℕ) (e : Expression ℕ) (old m rest : List Lexeme) → LineOf old line → next_terminal old ≡ Some x.Not → m ≡ drop 1 old → Parses (expression e 7) for_operand same m rest
+    → Parses (expression (expr.Not line e) 7) for_operand same old rest
 reads-complement line e old m rest at h is r =
     let w = sign_at x.Not old m h is in
     record { spelled = (line_sign x.Not line old m at w, (m, w, r.spelled)); passes = λ k. on-sign (operand ∷ k) x.Not old m w ∙ r.passes k; shorter = omega (arith, r.shorter, sign-shorter x.Not old m w) }
@@ -186,14 +187,14 @@ no_operator (t ∷ ts) h = at (operator_of t.terminal) h
     at (Some p) h = absurd (let no = h p refl in omega arith)
 
 -- up to the end of an expression
-passes-whole : (g : State → State) (e : Expression ℕ) (ts rest : List Lexeme) (k : State) → Reads (expression e 0) for_expr for_tails ts rest → Looser 0 rest → machine (operand ∷ more_tails ∷ g k) ts ≡ machine (g k) rest
+passes-whole : (g : State → State) (e : Expression ℕ) (ts rest : List Lexeme) (k : State) → Parses (expression e 0) for_expr for_tails ts rest → Looser 0 rest → machine (operand ∷ more_tails ∷ g k) ts ≡ machine (g k) rest
 passes-whole g e ts rest k r h = r.passes (g k) ∙ machine-more_tails (g k) rest (no_operator rest h)
 
-pub passes-paren : (e : Expression ℕ) (old m m' : List Lexeme) → next_terminal old ≡ Some x.Open → m ≡ drop 1 old → Reads (expression e 0) for_expr for_tails m m' → Looser 0 m' → Passes for_operand for_close old m'
+pub passes-paren : (e : Expression ℕ) (old m m' : List Lexeme) → next_terminal old ≡ Some x.Open → m ≡ drop 1 old → Parses (expression e 0) for_expr for_tails m m' → Looser 0 m' → Passes for_operand for_close old m'
 passes-paren e old m m' h is r loose k = on-sign (operand ∷ k) x.Open old m (sign_at x.Open old m h is) ∙ passes-whole for_close e m m' k r loose
 
-pub reads-paren : (line : ℕ) (e : Expression ℕ) (old m m' rest : List Lexeme) → LineOf old line → next_terminal old ≡ Some x.Open → m ≡ drop 1 old → Reads (expression e 0) for_expr for_tails m m' → Looser 0 m'
-    → Reads (sign x.Close) for_close same m' rest → Reads (expression (paren line e) 7) for_operand same old rest
+pub reads-paren : (line : ℕ) (e : Expression ℕ) (old m m' rest : List Lexeme) → LineOf old line → next_terminal old ≡ Some x.Open → m ≡ drop 1 old → Parses (expression e 0) for_expr for_tails m m' → Looser 0 m'
+    → Parses (sign x.Close) for_close same m' rest → Parses (expression (expr.Paren line e) 7) for_operand same old rest
 reads-paren line e old m m' rest at h is r loose c =
     let w = sign_at x.Open old m h is in
     record {
@@ -211,7 +212,7 @@ word-then n ts (u ∷ us) (t, is, w) not = λ hash.
     let worse : true ≡ false = rw (is.0, hash) at bad in
     cc
 
-pub passes-place_root : (r : Root ℕ) (old m : List Lexeme) → is_enumerator old ≡ false → Reads (root r) for_root same old m → Passes for_operand (for_selectors calls) old m
+pub passes-place_root : (r : Root ℕ) (old m : List Lexeme) → is_enumerator old ≡ false → Parses (root r) for_root same old m → Passes for_operand (for_selectors calls) old m
 passes-place_root r old m not reads k = at r reads.spelled
   where
     at : (r : Root ℕ) → root r old m → machine (operand ∷ k) old ≡ machine (selecting calls ∷ k) m
@@ -219,22 +220,22 @@ passes-place_root r old m not reads k = at r reads.spelled
     at (roots.This line) (a, h) = on-sign (operand ∷ k) x.This old m h
     at (roots.Super line) (a, h) = on-sign (operand ∷ k) x.Super old m h
 
-passes-selected : (r : Root ℕ) (s : Selectors ℕ) (old m m' : List Lexeme) → is_enumerator old ≡ false → Reads (root r) for_root same old m → Selects (selectors s) m m' → Passes for_operand (for_selectors calls) old m'
+passes-selected : (r : Root ℕ) (s : Selectors ℕ) (old m m' : List Lexeme) → is_enumerator old ≡ false → Parses (root r) for_root same old m → Selects (selectors s) m m' → Passes for_operand (for_selectors calls) old m'
 passes-selected r s old m m' not rr rs k = passes-place_root r old m not rr k ∙ (rs calls).passes k
 
-pub passes-called : (r : Root ℕ) (s : Selectors ℕ) (old m m' m'' : List Lexeme) → is_enumerator old ≡ false → Reads (root r) for_root same old m → Selects (selectors s) m m' → sign x.Open m' m'' → Passes for_operand for_arguments old m''
+pub passes-called : (r : Root ℕ) (s : Selectors ℕ) (old m m' m'' : List Lexeme) → is_enumerator old ≡ false → Parses (root r) for_root same old m → Selects (selectors s) m m' → sign x.Open m' m'' → Passes for_operand for_arguments old m''
 passes-called r s old m m' m'' not rr rs o k = passes-selected r s old m m' not rr rs k ∙ on-sign (selecting calls ∷ k) x.Open m' m'' o
 
-pub reads-call : (line : ℕ) (r : Root ℕ) (s : Selectors ℕ) (xs : Arguments ℕ) (old m m' m'' rest : List Lexeme) → LineOf old line → is_enumerator old ≡ false → Reads (root r) for_root same old m
-    → Selects (selectors s) m m' → sign x.Open m' m'' → Reads (arguments xs ⋆ sign x.Close) for_arguments same m'' rest → Reads (expression (call line r s xs) 7) for_operand same old rest
+pub reads-call : (line : ℕ) (r : Root ℕ) (s : Selectors ℕ) (xs : Arguments ℕ) (old m m' m'' rest : List Lexeme) → LineOf old line → is_enumerator old ≡ false → Parses (root r) for_root same old m
+    → Selects (selectors s) m m' → sign x.Open m' m'' → Parses (arguments xs ⋆ sign x.Close) for_arguments same m'' rest → Parses (expression (expr.Call line r s xs) 7) for_operand same old rest
 reads-call line r s xs old m m' m'' rest at not rr rs o ra = record {
   spelled = (line_root r line old m at rr.spelled, (m, rr.spelled, (m', (rs calls).spelled, (m'', o, ra.spelled))));
   passes = λ k. passes-called r s old m m' m'' not rr rs o k ∙ ra.passes k;
   shorter = omega (arith, rr.shorter, (rs calls).shorter, ra.shorter, sign-shorter x.Open m' m'' o);
 }
 
-pub reads-place : (line : ℕ) (r : Root ℕ) (s : Selectors ℕ) (old m rest : List Lexeme) → LineOf old line → is_enumerator old ≡ false → Reads (root r) for_root same old m
-    → Selects (selectors s) m rest → NoSelector rest → NotNext x.Open rest → Reads (expression (place line r s) 7) for_operand same old rest
+pub reads-place : (line : ℕ) (r : Root ℕ) (s : Selectors ℕ) (old m rest : List Lexeme) → LineOf old line → is_enumerator old ≡ false → Parses (root r) for_root same old m
+    → Selects (selectors s) m rest → NoSelector rest → NotNext x.Open rest → Parses (expression (expr.Place line r s) 7) for_operand same old rest
 reads-place line r s old m rest at not rr rs ends no_call = record {
   spelled = (line_root r line old m at rr.spelled, (m, rr.spelled, (rs calls).spelled));
   passes = λ k. passes-selected r s old m rest not rr rs k ∙ machine-calls k rest ends no_call;
@@ -262,19 +263,19 @@ behind_open k = root_next ∷ selecting reference_end ∷ k
 pub passes-ref : (old m : List Lexeme) → next_terminal old ≡ Some x.Ref → m ≡ drop 1 old → Passes for_operand for_reference old m
 passes-ref old m h is k = on-sign (operand ∷ k) x.Ref old m (sign_at x.Ref old m h is)
 
-pub passes-opened : (old m m' : List Lexeme) → next_terminal old ≡ Some x.Ref → m ≡ drop 1 old → Reads (sign x.Open) for_reference behind_open m m' → Passes for_operand behind_open old m'
+pub passes-opened : (old m m' : List Lexeme) → next_terminal old ≡ Some x.Ref → m ≡ drop 1 old → Parses (sign x.Open) for_reference behind_open m m' → Passes for_operand behind_open old m'
 passes-opened old m m' h is ro k = passes-ref old m h is k ∙ ro.passes k
 
-pub passes-referred : (r : Root ℕ) (old m m' m'' : List Lexeme) → next_terminal old ≡ Some x.Ref → m ≡ drop 1 old → Reads (sign x.Open) for_reference behind_open m m' → Reads (root r) for_root same m' m''
+pub passes-referred : (r : Root ℕ) (old m m' m'' : List Lexeme) → next_terminal old ≡ Some x.Ref → m ≡ drop 1 old → Parses (sign x.Open) for_reference behind_open m m' → Parses (root r) for_root same m' m''
     → Passes for_operand (for_selectors reference_end) old m''
 passes-referred r old m m' m'' h is ro rr k = passes-opened old m m' h is ro k ∙ rr.passes (selecting reference_end ∷ k)
 
-pub passes-ref_end : (r : Root ℕ) (s : Selectors ℕ) (old m m' m'' m3 : List Lexeme) → next_terminal old ≡ Some x.Ref → m ≡ drop 1 old → Reads (sign x.Open) for_reference behind_open m m' → Reads (root r) for_root same m' m''
+pub passes-ref_end : (r : Root ℕ) (s : Selectors ℕ) (old m m' m'' m3 : List Lexeme) → next_terminal old ≡ Some x.Ref → m ≡ drop 1 old → Parses (sign x.Open) for_reference behind_open m m' → Parses (root r) for_root same m' m''
     → Selects (selectors s) m'' m3 → NoSelector m3 → Passes for_operand for_close old m3
 passes-ref_end r s old m m' m'' m3 h is ro rr rs ends k = passes-referred r old m m' m'' h is ro rr k ∙ (rs reference_end).passes k ∙ machine-referred k m3 ends
 
-pub reads-ref : (line : ℕ) (r : Root ℕ) (s : Selectors ℕ) (old m m' m'' m3 rest : List Lexeme) → LineOf old line → next_terminal old ≡ Some x.Ref → m ≡ drop 1 old → Reads (sign x.Open) for_reference behind_open m m'
-    → Reads (root r) for_root same m' m'' → Selects (selectors s) m'' m3 → NoSelector m3 → Reads (sign x.Close) for_close same m3 rest → Reads (expression (ref line r s) 7) for_operand same old rest
+pub reads-ref : (line : ℕ) (r : Root ℕ) (s : Selectors ℕ) (old m m' m'' m3 rest : List Lexeme) → LineOf old line → next_terminal old ≡ Some x.Ref → m ≡ drop 1 old → Parses (sign x.Open) for_reference behind_open m m'
+    → Parses (root r) for_root same m' m'' → Selects (selectors s) m'' m3 → NoSelector m3 → Parses (sign x.Close) for_close same m3 rest → Parses (expression (expr.Ref line r s) 7) for_operand same old rest
 reads-ref line r s old m m' m'' m3 rest at h is ro rr rs ends rc =
     let w = sign_at x.Ref old m h is in
     record {
@@ -291,7 +292,7 @@ selected v w ts rest e r = rw e r
 pub passes-dot : (old m : List Lexeme) (f : Follow) (k : State) → next_terminal old ≡ Some x.Dot → m ≡ drop 1 old → machine (selecting f ∷ k) old ≡ machine (for_name (selecting f ∷ k)) m
 passes-dot old m f k h is = on-sign (selecting f ∷ k) x.Dot old m (sign_at x.Dot old m h is)
 
-pub reads-field : (line : ℕ) (n : List ℕ) (old m rest : List Lexeme) → next_terminal old ≡ Some x.Dot → m ≡ drop 1 old → LineOf m line → Reads (word n) for_name same m rest → Selects (selector (field line n)) old rest
+pub reads-field : (line : ℕ) (n : List ℕ) (old m rest : List Lexeme) → next_terminal old ≡ Some x.Dot → m ≡ drop 1 old → LineOf m line → Parses (word n) for_name same m rest → Selects (selector (expr.Field line n)) old rest
 reads-field line n old m rest h is at r f =
     let w = sign_at x.Dot old m h is in
     record { spelled = (m, w, (line_spelled x.Word n line m rest at r.spelled, r.spelled)); passes = λ k. passes-dot old m f k h is ∙ r.passes (selecting f ∷ k); shorter = omega (arith, r.shorter, sign-shorter x.Dot old m w) }
@@ -300,12 +301,12 @@ pub passes-bracket : (old m : List Lexeme) (f : Follow) (k : State) → next_ter
 passes-bracket old m f k h is = on-sign (selecting f ∷ k) x.OpenBracket old m (sign_at x.OpenBracket old m h is)
 
 pub reads-index : (line : ℕ) (es : Expressions ℕ) (old m rest : List Lexeme) → LineOf old line → next_terminal old ≡ Some x.OpenBracket → m ≡ drop 1 old
-    → Reads (first_expression es ⋆ sign x.CloseBracket) for_indices same m rest → Selects (selector (index line es)) old rest
+    → Parses (first_expression es ⋆ sign x.CloseBracket) for_indices same m rest → Selects (selector (expr.Index line es)) old rest
 reads-index line es old m rest at h is r f =
     let w = sign_at x.OpenBracket old m h is in
     record { spelled = (line_sign x.OpenBracket line old m at w, (m, w, r.spelled)); passes = λ k. passes-bracket old m f k h is ∙ r.passes (selecting f ∷ k); shorter = omega (arith, r.shorter, sign-shorter x.OpenBracket old m w) }
 
-pub reads-target : (line : ℕ) (old rest : List Lexeme) → LineOf old line → next_terminal old ≡ Some x.Caret → rest ≡ drop 1 old → Selects (selector (target line)) old rest
+pub reads-target : (line : ℕ) (old rest : List Lexeme) → LineOf old line → next_terminal old ≡ Some x.Caret → rest ≡ drop 1 old → Selects (selector (expr.Target line)) old rest
 reads-target line old rest at h is f =
     let w = sign_at x.Caret old rest h is in
     record { spelled = (line_sign x.Caret line old rest at w, w); passes = λ k. on-sign (selecting f ∷ k) x.Caret old rest w; shorter = omega (arith, sign-shorter x.Caret old rest w) }
@@ -363,21 +364,21 @@ pub record IndicesSoFar (found : List (Expr ℕ)) (ts now' : List Lexeme) : Type
   pub passes : Passes for_indices for_more_indices ts now'
   pub shorter : length now' ≤ length ts
 
-pub indices-first : (e : Expr ℕ) (ts m : List Lexeme) → Reads (expression (expression_of e) 0) for_expr for_tails ts m → Looser 0 m → IndicesSoFar (e ∷ []) ts m
+pub indices-first : (e : Expr ℕ) (ts m : List Lexeme) → Parses (expression (expression_of e) 0) for_expr for_tails ts m → Looser 0 m → IndicesSoFar (e ∷ []) ts m
 indices-first e ts m r h = record { spelled = λ es rest more. (m, r.spelled, more); passes = λ k. passes-whole for_more_indices (expression_of e) ts m k r h; shorter = r.shorter }
 
 pub indices-next : (found : List (Expr ℕ)) (ts m m' : List Lexeme) → IndicesSoFar found ts m → sign x.Comma m m' → Passes for_indices for_indices ts m'
 indices-next found ts m m' so comma k = so.passes k ∙ on-sign (comma_or_bracket ∷ k) x.Comma m m' comma
 
 pub indices-pushed : (found : List (Expr ℕ)) (e : Expr ℕ) (ts m m' now' : List Lexeme) → IndicesSoFar found ts m → sign x.Comma m m'
-    → Reads (expression (expression_of e) 0) for_expr for_tails m' now' → Looser 0 now' → IndicesSoFar (found ++ e ∷ []) ts now'
+    → Parses (expression (expression_of e) 0) for_expr for_tails m' now' → Looser 0 now' → IndicesSoFar (found ++ e ∷ []) ts now'
 indices-pushed found e ts m m' now' so comma r h = record {
   spelled = λ es rest more. rw expressions_onto-push (so.spelled (expression_then (expression_of e) es) rest (m', comma, (now', r.spelled, more)));
   passes = λ k. indices-next found ts m m' so comma k ∙ passes-whole for_more_indices (expression_of e) m' now' k r h;
   shorter = omega (arith, so.shorter, r.shorter, sign-shorter x.Comma m m' comma);
 }
 
-pub indices-read : (found : List (Expr ℕ)) (ts m rest : List Lexeme) → IndicesSoFar found ts m → sign x.CloseBracket m rest → Reads (first_expression (expressions_of found) ⋆ sign x.CloseBracket) for_indices same ts rest
+pub indices-read : (found : List (Expr ℕ)) (ts m rest : List Lexeme) → IndicesSoFar found ts m → sign x.CloseBracket m rest → Parses (first_expression (expressions_of found) ⋆ sign x.CloseBracket) for_indices same ts rest
 indices-read found ts m rest so end = record {
   spelled = (m, rw (← expressions_onto-none found) (so.spelled no_expressions m refl), end);
   passes = λ k. so.passes k ∙ on-sign (comma_or_bracket ∷ k) x.CloseBracket m rest end;
@@ -403,27 +404,27 @@ pub record ArgumentsSoFar (found : List (CodeArgument ℕ)) (ts now' : List Lexe
   pub passes : Passes for_arguments for_more ts now'
   pub shorter : length now' ≤ length ts
 
-pub reads-no_arguments : (old rest : List Lexeme) → sign x.Close old rest → Reads (arguments no_arguments ⋆ sign x.Close) for_arguments same old rest
+pub reads-no_arguments : (old rest : List Lexeme) → sign x.Close old rest → Parses (arguments no_arguments ⋆ sign x.Close) for_arguments same old rest
 reads-no_arguments old rest c = record { spelled = (old, refl, c); passes = λ k. on-sign (first_argument ∷ k) x.Close old rest c; shorter = omega (arith, sign-shorter x.Close old rest c) }
 
 pub passes-first : (old : List Lexeme) → NotNext x.Close old → Passes for_arguments for_argument old old
 passes-first old h k = machine-first_argument k old h
 
-pub arguments-first : (a : CodeArgument ℕ) (ts m : List Lexeme) → NotNext x.Close ts → Reads (argument (argument_of a)) for_argument for_more ts m → ArgumentsSoFar (a ∷ []) ts m
+pub arguments-first : (a : CodeArgument ℕ) (ts m : List Lexeme) → NotNext x.Close ts → Parses (argument (argument_of a)) for_argument for_more ts m → ArgumentsSoFar (a ∷ []) ts m
 arguments-first a ts m not r = record { spelled = λ xs rest more. (m, r.spelled, more); passes = λ k. passes-first ts not k ∙ r.passes k; shorter = r.shorter }
 
 pub arguments-next : (found : List (CodeArgument ℕ)) (ts m m' : List Lexeme) → ArgumentsSoFar found ts m → sign x.Comma m m' → Passes for_arguments for_argument ts m'
 arguments-next found ts m m' so comma k = so.passes k ∙ on-sign (comma_or_close ∷ k) x.Comma m m' comma
 
 pub arguments-pushed : (found : List (CodeArgument ℕ)) (a : CodeArgument ℕ) (ts m m' now' : List Lexeme) → ArgumentsSoFar found ts m → sign x.Comma m m'
-    → Reads (argument (argument_of a)) for_argument for_more m' now' → ArgumentsSoFar (found ++ a ∷ []) ts now'
+    → Parses (argument (argument_of a)) for_argument for_more m' now' → ArgumentsSoFar (found ++ a ∷ []) ts now'
 arguments-pushed found a ts m m' now' so comma r = record {
   spelled = λ xs rest more. rw arguments_onto-push (so.spelled (argument_then (argument_of a) xs) rest (m', comma, (now', r.spelled, more)));
   passes = λ k. arguments-next found ts m m' so comma k ∙ r.passes k;
   shorter = omega (arith, so.shorter, r.shorter, sign-shorter x.Comma m m' comma);
 }
 
-pub arguments-read : (found : List (CodeArgument ℕ)) (ts m rest : List Lexeme) → ArgumentsSoFar found ts m → sign x.Close m rest → Reads (arguments (arguments_of found) ⋆ sign x.Close) for_arguments same ts rest
+pub arguments-read : (found : List (CodeArgument ℕ)) (ts m rest : List Lexeme) → ArgumentsSoFar found ts m → sign x.Close m rest → Parses (arguments (arguments_of found) ⋆ sign x.Close) for_arguments same ts rest
 arguments-read found ts m rest so end = record {
   spelled = (m, rw (← arguments_onto-none found) (so.spelled no_arguments m refl), end);
   passes = λ k. so.passes k ∙ on-sign (comma_or_close ∷ k) x.Close m rest end;
@@ -476,8 +477,8 @@ positional_next (t ∷ ts) h = λ is. at ts (subst (λ u. naming_by (Some u) (ne
 pub passes-positional : (old : List Lexeme) → naming_of old ≡ naming.Positional → (k : State) → machine (argument_next ∷ k) old ≡ machine (for_expr (comma_or_close ∷ k)) old
 passes-positional old h k = machine-argument k old (positional_next old h)
 
-pub reads-positional : (e : Expression ℕ) (a : Argument ℕ) (old rest : List Lexeme) → a ≡ positional e → naming_of old ≡ naming.Positional → Reads (expression e 0) for_expr for_tails old rest → Looser 0 rest
-    → Reads (argument a) for_argument for_more old rest
+pub reads-positional : (e : Expression ℕ) (a : Argument ℕ) (old rest : List Lexeme) → a ≡ expr.Positional e → naming_of old ≡ naming.Positional → Parses (expression e 0) for_expr for_tails old rest → Looser 0 rest
+    → Parses (argument a) for_argument for_more old rest
 reads-positional e a old rest is h r loose =
     rw is (record { spelled = r.spelled; passes = λ k. passes-positional old h k ∙ passes-whole for_more e old rest k r loose; shorter = r.shorter })
 
@@ -487,8 +488,8 @@ passes-input n old m m' h t is k =
     let w' = sign_at x.Assign m m' (subst (λ u. next_terminal u ≡ Some x.Assign) (behind_taken n old m t) (input_assign old h)) is in
     on-sign (argument_next ∷ k) x.Word old m (signed x.Word n old m w) ∙ on-sign (behind_argument ∷ k) x.Assign m m' w'
 
-pub reads-input : (line : ℕ) (n : List ℕ) (e : Expression ℕ) (a : Argument ℕ) (old m m' rest : List Lexeme) → a ≡ input line n e → LineOf old line → naming_of old ≡ naming.Input → TextTaken n old m → m' ≡ drop 1 m
-    → Reads (expression e 0) for_expr for_tails m' rest → Looser 0 rest → Reads (argument a) for_argument for_more old rest
+pub reads-input : (line : ℕ) (n : List ℕ) (e : Expression ℕ) (a : Argument ℕ) (old m m' rest : List Lexeme) → a ≡ expr.Input line n e → LineOf old line → naming_of old ≡ naming.Input → TextTaken n old m → m' ≡ drop 1 m
+    → Parses (expression e 0) for_expr for_tails m' rest → Looser 0 rest → Parses (argument a) for_argument for_more old rest
 reads-input line n e a old m m' rest is at h t is' r loose =
     let w = taken x.Word n old m (input_word old h) t in
     let w' = sign_at x.Assign m m' (subst (λ u. next_terminal u ≡ Some x.Assign) (behind_taken n old m t) (input_assign old h)) is' in
@@ -504,12 +505,12 @@ passes-output n old m m' h t is k =
     let w' = sign_at x.Sends m m' (subst (λ u. next_terminal u ≡ Some x.Sends) (behind_taken n old m t) (output_sends old h)) is in
     on-sign (argument_next ∷ k) x.Word old m (signed x.Word n old m w) ∙ on-sign (behind_argument ∷ k) x.Sends m m' w'
 
-pub passes-output_root : (n : List ℕ) (r : Root ℕ) (old m m' m'' : List Lexeme) → naming_of old ≡ naming.Output → TextTaken n old m → m' ≡ drop 1 m → Reads (root r) for_root same m' m''
+pub passes-output_root : (n : List ℕ) (r : Root ℕ) (old m m' m'' : List Lexeme) → naming_of old ≡ naming.Output → TextTaken n old m → m' ≡ drop 1 m → Parses (root r) for_root same m' m''
     → (k : State) → machine (argument_next ∷ k) old ≡ machine (selecting arguments_end ∷ k) m''
 passes-output_root n r old m m' m'' h t is rr k = passes-output n old m m' h t is k ∙ rr.passes (selecting arguments_end ∷ k)
 
-pub reads-output : (line : ℕ) (n : List ℕ) (later : ℕ) (r : Root ℕ) (s : Selectors ℕ) (a : Argument ℕ) (old m m' m'' rest : List Lexeme) → a ≡ output line n later r s → LineOf old line → naming_of old ≡ naming.Output
-    → TextTaken n old m → m' ≡ drop 1 m → LineOf m' later → Reads (root r) for_root same m' m'' → Selects (selectors s) m'' rest → NoSelector rest → Reads (argument a) for_argument for_more old rest
+pub reads-output : (line : ℕ) (n : List ℕ) (later : ℕ) (r : Root ℕ) (s : Selectors ℕ) (a : Argument ℕ) (old m m' m'' rest : List Lexeme) → a ≡ expr.Output line n later r s → LineOf old line → naming_of old ≡ naming.Output
+    → TextTaken n old m → m' ≡ drop 1 m → LineOf m' later → Parses (root r) for_root same m' m'' → Selects (selectors s) m'' rest → NoSelector rest → Parses (argument a) for_argument for_more old rest
 reads-output line n later r s a old m m' m'' rest is at h t is' at' rr rs ends =
     let w = taken x.Word n old m (output_word old h) t in
     let w' = sign_at x.Sends m m' (subst (λ u. next_terminal u ≡ Some x.Sends) (behind_taken n old m t) (output_sends old h)) is' in
@@ -539,8 +540,8 @@ pub record TailsSoFar (row at : ℕ) (found : List (Tail ℕ)) (ts now' : List L
   pub shorter : length now' ≤ length ts
   pub looser : Looser (at + 1) ts → Looser (at + 1) now'
 
-pub chain-alone : (e : Expression ℕ) (row l : ℕ) (ts m rest : List Lexeme) → Reads (expression e (l + 1)) for_expr for_tails ts m → Reads (tails no_tails row l) for_tails for_tails m rest
-    → Reads (expression e l) for_expr for_tails ts rest
+pub chain-alone : (e : Expression ℕ) (row l : ℕ) (ts m rest : List Lexeme) → Parses (expression e (l + 1)) for_expr for_tails ts m → Parses (tails no_tails row l) for_tails for_tails m rest
+    → Parses (expression e l) for_expr for_tails ts rest
 chain-alone e row l ts m rest r none = record {
   spelled = rw (← none.spelled) (expression-looser e (l + 1) l ts m (omega arith) r.spelled);
   passes = λ k. r.passes k ∙ none.passes k;
@@ -551,8 +552,8 @@ tails-some : (t : List (Tail ℕ)) (row l : ℕ) (ts rest : List Lexeme) → (t 
 tails-some [] row l ts rest some h = absurd (some refl)
 tails-some (u ∷ t) row l ts rest some h = h
 
-pub chain-chained : (line : ℕ) (e : Expression ℕ) (t : List (Tail ℕ)) (l : ℕ) (ts m rest : List Lexeme) → LineOf ts line → l < 7 → (t ≡ [] → ⊥) → Reads (expression e (l + 1)) for_expr for_tails ts m
-    → Reads (tails (tails_of t) line l) for_tails for_tails m rest → Reads (expression (chain line e (tails_of t)) l) for_expr for_tails ts rest
+pub chain-chained : (line : ℕ) (e : Expression ℕ) (t : List (Tail ℕ)) (l : ℕ) (ts m rest : List Lexeme) → LineOf ts line → l < 7 → (t ≡ [] → ⊥) → Parses (expression e (l + 1)) for_expr for_tails ts m
+    → Parses (tails (tails_of t) line l) for_tails for_tails m rest → Parses (expression (expr.Chain line e (tails_of t)) l) for_expr for_tails ts rest
 chain-chained line e t l ts m rest at small some r rt = record {
   spelled = (line_noted line _ ts at (note-is e (l + 1) ts m r.spelled), (l, omega arith, small, (m, rw add-one at r.spelled, tails-some t line l m rest some rt.spelled)));
   passes = λ k. r.passes k ∙ rt.passes k;
@@ -578,7 +579,7 @@ pub tails-next : (row l : ℕ) (found : List (Tail ℕ)) (p : Operator) (ts m m'
 tails-next row l found p ts m m' so is next k = so.passes k ∙ machine-operator l p k m m' (operator_next l m m' p is next)
 
 pub tails-pushed : (row l : ℕ) (found : List (Tail ℕ)) (t : Tail ℕ) (ts m m' now' : List Lexeme) → TailsSoFar row l found ts m → t.note ≡ row → next_operator_at l m ≡ Some t.operator → m' ≡ drop 1 m
-    → Reads (expression (expression_of t.operand) (l + 1)) for_expr for_tails m' now' → Looser (l + 1) now' → TailsSoFar row l (found ++ t ∷ []) ts now'
+    → Parses (expression (expression_of t.operand) (l + 1)) for_expr for_tails m' now' → Looser (l + 1) now' → TailsSoFar row l (found ++ t ∷ []) ts now'
 tails-pushed row l found t ts m m' now' so noted is next r h =
     let o = operator_next l m m' t.operator is next in
     record {
@@ -589,5 +590,5 @@ tails-pushed row l found t ts m m' now' so noted is next r h =
       looser = λ _. h;
     }
 
-pub tails-read : (row l : ℕ) (found : List (Tail ℕ)) (ts rest : List Lexeme) → TailsSoFar row l found ts rest → Reads (tails (tails_of found) row l) for_tails for_tails ts rest
+pub tails-read : (row l : ℕ) (found : List (Tail ℕ)) (ts rest : List Lexeme) → TailsSoFar row l found ts rest → Parses (tails (tails_of found) row l) for_tails for_tails ts rest
 tails-read row l found ts rest so = record { spelled = rw (← tails_onto-none found) (so.spelled no_tails rest refl); passes = so.passes; shorter = so.shorter }

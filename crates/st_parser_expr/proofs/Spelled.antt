@@ -10,10 +10,11 @@ use Rattle.st_tree.specs.declared.expression.Literal.{Literal}
 use Rattle.st_tree.specs.declared.expression.Literal.TheVariants as literals
 use Rattle.st_tree.specs.declared.expression.Root.{Root}
 use Rattle.st_tree.specs.declared.expression.Root.TheVariants as roots
-use Rattle.st_tree.specs.Plain.{Expression, int, typed, time, true_value, false_value, null, place, call, enumerator, ref, now, paren, complement, minus, Expressions, no_expressions, expression_then, Selectors, no_selectors, selector_then, field, index, target, Argument, positional, input, output, Arguments, no_arguments, argument_then}
+use Rattle.st_tree.specs.Expression as expr
+use Rattle.st_tree.specs.Expression.{Expression, Expressions, no_expressions, expression_then, Selectors, no_selectors, selector_then, Argument, Arguments, no_arguments, argument_then}
 use Rattle.st_tree.specs.Grammar.{Lexeme, Phrase, sign, spelled, word, operator_of, ◌⋆◌, literal, root, expression, selectors, more_expressions, argument, arguments, more_arguments}
-use Rattle.st_parser_expr.specs.Beginnings.{Spells}
-use Rattle.st_parser_expr.specs.Machine.{Follow, calls, reference_end, arguments_end, Want, operand, more_tails, selecting, behind_name, root_next, name_next, close_next, behind_ref, behind_kind, literal_next, digits_next, comma_or_bracket, first_argument, argument_next, behind_argument, comma_or_close, State, on_operand, on_tail, on_selector, on_call, on_hash, on_root, on_name, on_close, on_reference, on_time, on_kind, on_literal, on_digits, on_index, on_more, on_argument, on_first, on_naming, on_follow, on_named, advance, accepts, Ending, go_on, machine, start}
+use Rattle.st_parser_expr.specs.Parse.{Spells}
+use Rattle.st_parser_expr.specs.Private.Machine.{Follow, calls, reference_end, arguments_end, elsewhere, Want, operand, more_tails, selecting, behind_name, root_next, name_next, close_next, behind_ref, behind_kind, literal_next, digits_next, comma_or_bracket, first_argument, argument_next, behind_argument, comma_or_close, State, on_operand, on_tail, on_selector, on_call, on_hash, on_root, on_name, on_close, on_reference, on_time, on_kind, on_literal, on_digits, on_index, on_more, on_argument, on_first, on_naming, on_follow, on_named, advance, accepts, Ending, go_on, machine, start}
 use Rattle.st_parser_expr.proofs.Groups.{flat, grouped, expression-looser}
 
 -- what stands behind the selectors of a place
@@ -21,6 +22,7 @@ abbrev pub Behind : Follow → Phrase
 Behind calls ts rest = (ts ≡ rest) ⊎ ((xs : Arguments ℕ) × (sign x.Open ⋆ arguments xs ⋆ sign x.Close) ts rest)
 Behind reference_end ts rest = sign x.Close ts rest
 Behind arguments_end ts rest = (xs : Arguments ℕ) × (more_arguments xs ⋆ sign x.Close) ts rest
+Behind elsewhere ts rest = ts ≡ rest
 
 abbrev pub Selected : Follow → Phrase
 Selected f ts rest = (s : Selectors ℕ) × (selectors s ⋆ Behind f) ts rest
@@ -74,6 +76,7 @@ at_end (more_tails ∷ k) h = ([], ([], refl), at_end k h)
 at_end (selecting calls ∷ k) h = ([], (no_selectors, ([], refl, inl refl)), at_end k h)
 at_end (selecting reference_end ∷ k) h = cc
 at_end (selecting arguments_end ∷ k) h = cc
+at_end (selecting elsewhere ∷ k) h = ([], (no_selectors, ([], refl, refl)), at_end k h)
 at_end (behind_name ∷ k) h = ([], inr (no_selectors, ([], refl, inl refl)), at_end k h)
 at_end (root_next ∷ k) h = cc
 at_end (name_next ∷ k) h = cc
@@ -102,21 +105,21 @@ whole ts m rest (e, he) (t, ht) = grouped t e ts m rest (looser e ts m he) ht
 
 -- what a name is, by what stands behind it
 named : (t : Lexeme) (ts m : List Lexeme) → t.terminal ≡ x.Word → Named ts m → Gives operand (t ∷ ts) m
-named t ts m is (inl (n, (m', hash, (u, both, w)))) = (enumerator t.line t.text u.line n, (refl, (ts, (t, (is, refl), refl), (m', hash, (rw w refl, (u, both, w))))))
-named t ts m is (inr (s, (m', hs, inl e))) = (place t.line (roots.Name t.line t.text) s, (refl, (ts, (refl, (t, (is, refl), refl)), rw (← e) hs)))
-named t ts m is (inr (s, (m', hs, inr (xs, more)))) = (call t.line (roots.Name t.line t.text) s xs, (refl, (ts, (refl, (t, (is, refl), refl)), (m', hs, more))))
+named t ts m is (inl (n, (m', hash, (u, both, w)))) = (expr.Enumerator t.line t.text u.line n, (refl, (ts, (t, (is, refl), refl), (m', hash, (rw w refl, (u, both, w))))))
+named t ts m is (inr (s, (m', hs, inl e))) = (expr.Place t.line (roots.Name t.line t.text) s, (refl, (ts, (refl, (t, (is, refl), refl)), rw (← e) hs)))
+named t ts m is (inr (s, (m', hs, inr (xs, more)))) = (expr.Call t.line (roots.Name t.line t.text) s xs, (refl, (ts, (refl, (t, (is, refl), refl)), (m', hs, more))))
 
 -- and what a place without a name is
 begun : (r : Root ℕ) (t : Lexeme) (ts m : List Lexeme) → root r (t ∷ ts) ts → Selected calls ts m → Gives operand (t ∷ ts) m
-begun r t ts m hr (s, (m', hs, inl e)) = (place t.line r s, (refl, (ts, hr, rw (← e) hs)))
-begun r t ts m hr (s, (m', hs, inr (xs, more))) = (call t.line r s xs, (refl, (ts, hr, (m', hs, more))))
+begun r t ts m hr (s, (m', hs, inl e)) = (expr.Place t.line r s, (refl, (ts, hr, rw (← e) hs)))
+begun r t ts m hr (s, (m', hs, inr (xs, more))) = (expr.Call t.line r s xs, (refl, (ts, hr, (m', hs, more))))
 
 kinded : (e : Elem) (t : Lexeme) (ts m : List Lexeme) → t.terminal ≡ x.Kind e → Gives (behind_kind e) ts m → Gives operand (t ∷ ts) m
-kinded e t ts m is (inl (v, more)) = (typed t.line e v, (refl, (ts, (t, is, refl), more)))
-kinded e t ts m is (inr (is_time, more)) = (now t.line, (refl, (ts, (t, rw is_time at is, refl), more)))
+kinded e t ts m is (inl (v, more)) = (expr.Typed t.line e v, (refl, (ts, (t, is, refl), more)))
+kinded e t ts m is (inr (is_time, more)) = (expr.Now t.line, (refl, (ts, (t, rw is_time at is, refl), more)))
 
 referred : (t : Lexeme) (ts m : List Lexeme) → t.terminal ≡ x.Ref → Gives behind_ref ts m → Gives operand (t ∷ ts) m
-referred t ts m is (m1, o, (r, (m2, hr, (s, (m3, hs, c))))) = (ref t.line r s, (refl, (ts, (t, is, refl), (m1, o, (m2, hr, (m3, hs, c))))))
+referred t ts m is (m1, o, (r, (m2, hr, (s, (m3, hs, c))))) = (expr.Ref t.line r s, (refl, (ts, (t, is, refl), (m1, o, (m2, hr, (m3, hs, c))))))
 
 -- the line of what a place begins with
 root-line : Root ℕ → ℕ
@@ -126,16 +129,16 @@ root-line (roots.Super line) = line
 
 -- an argument, by what stands behind the name that it begins with
 worded : (t : Lexeme) (ts rest : List Lexeme) → t.terminal ≡ x.Word → Gives behind_argument ts rest → Gives argument_next (t ∷ ts) rest
-worded t ts rest is (inl (m, assign, (m', (e, he), more))) = (input t.line t.text e, (m', (ts, (refl, (t, (is, refl), refl)), (m, assign, he)), more))
+worded t ts rest is (inl (m, assign, (m', (e, he), more))) = (expr.Input t.line t.text e, (m', (ts, (refl, (t, (is, refl), refl)), (m, assign, he)), more))
 worded t ts rest is (inr (inl (m, sends, (r, (m', hr, (s, (m'', hs, more))))))) = sent r hr
   where
     sent : (r : Root ℕ) → root r m m' → Gives argument_next (t ∷ ts) rest
-    sent (roots.Name line n) hr = (output t.line t.text line (roots.Name line n) s, (m'', (ts, (refl, (t, (is, refl), refl)), (m, sends, (hr.0, (m', hr, hs)))), more))
-    sent (roots.This line) hr = (output t.line t.text line (roots.This line) s, (m'', (ts, (refl, (t, (is, refl), refl)), (m, sends, (hr.0, (m', hr, hs)))), more))
-    sent (roots.Super line) hr = (output t.line t.text line (roots.Super line) s, (m'', (ts, (refl, (t, (is, refl), refl)), (m, sends, (hr.0, (m', hr, hs)))), more))
+    sent (roots.Name line n) hr = (expr.Output t.line t.text line (roots.Name line n) s, (m'', (ts, (refl, (t, (is, refl), refl)), (m, sends, (hr.0, (m', hr, hs)))), more))
+    sent (roots.This line) hr = (expr.Output t.line t.text line (roots.This line) s, (m'', (ts, (refl, (t, (is, refl), refl)), (m, sends, (hr.0, (m', hr, hs)))), more))
+    sent (roots.Super line) hr = (expr.Output t.line t.text line (roots.Super line) s, (m'', (ts, (refl, (t, (is, refl), refl)), (m, sends, (hr.0, (m', hr, hs)))), more))
 worded t ts rest is (inr (inr (m, n, (m', f, more)))) =
     let e = whole (t ∷ ts) m m' (named t ts m is n) f in
-    (positional e.0, (m', e.1, more))
+    (expr.Positional e.0, (m', e.1, more))
 
 -- a token with the terminal u stands before ts, of which all is known already
 module _ (text : List ℕ) (line : ℕ) (marks : Marks) (ts : List Lexeme) (later : (k : State) → Accepted (machine k ts) → GivesAll k ts) where
@@ -146,11 +149,11 @@ module _ (text : List ℕ) (line : ℕ) (marks : Marks) (ts : List Lexeme) (late
   Goes o b = Accepted (go_on o (λ k'. machine k' ts) (b, suc (length ts)))
 
   on-operand : (u : Terminal) (k : State) (b : Bool) → Goes (on_operand u k) b → GivesAll (operand ∷ k) (one u ∷ ts)
-  on-operand x.Int k b h = (ts, (int line text, (refl, (one x.Int, (refl, refl), refl))), later k h)
-  on-operand x.Duration k b h = (ts, (time line text, (refl, (one x.Duration, (refl, refl), refl))), later k h)
-  on-operand x.True k b h = (ts, (true_value line, (refl, (one x.True, refl, refl))), later k h)
-  on-operand x.False k b h = (ts, (false_value line, (refl, (one x.False, refl, refl))), later k h)
-  on-operand x.Null k b h = (ts, (null line, (refl, (one x.Null, refl, refl))), later k h)
+  on-operand x.Int k b h = (ts, (expr.Int line text, (refl, (one x.Int, (refl, refl), refl))), later k h)
+  on-operand x.Duration k b h = (ts, (expr.Time line text, (refl, (one x.Duration, (refl, refl), refl))), later k h)
+  on-operand x.True k b h = (ts, (expr.True line, (refl, (one x.True, refl, refl))), later k h)
+  on-operand x.False k b h = (ts, (expr.False line, (refl, (one x.False, refl, refl))), later k h)
+  on-operand x.Null k b h = (ts, (expr.Null line, (refl, (one x.Null, refl, refl))), later k h)
   on-operand (x.Kind e) k b h = let g = later (behind_kind e ∷ k) h in (g.0, kinded e (one (x.Kind e)) ts g.0 refl g.1, g.2)
   on-operand x.Word k b h = let g = later (behind_name ∷ k) h in (g.0, named (one x.Word) ts g.0 refl g.1, g.2)
   on-operand x.This k b h = let g = later (selecting calls ∷ k) h in (g.0, begun (roots.This line) (one x.This) ts g.0 (refl, (one x.This, refl, refl)) g.1, g.2)
@@ -161,9 +164,9 @@ module _ (text : List ℕ) (line : ℕ) (marks : Marks) (ts : List Lexeme) (late
       parenthesized : GivesAll (operand ∷ more_tails ∷ close_next ∷ k) ts → GivesAll (operand ∷ k) (one x.Open ∷ ts)
       parenthesized (m1, ho, (m2, ht, (m3, hc, rest))) =
           let e = whole ts m1 m2 ho ht in
-          (m3, (paren line e.0, (refl, (ts, (one x.Open, refl, refl), (m2, e.1, hc)))), rest)
-  on-operand x.Not k b h = let g = later (operand ∷ k) h in (g.0, (complement line g.1.0, (refl, (ts, (one x.Not, refl, refl), g.1.1))), g.2)
-  on-operand x.Minus k b h = let g = later (operand ∷ k) h in (g.0, (minus line g.1.0, (refl, (ts, (one x.Minus, refl, refl), g.1.1))), g.2)
+          (m3, (expr.Paren line e.0, (refl, (ts, (one x.Open, refl, refl), (m2, e.1, hc)))), rest)
+  on-operand x.Not k b h = let g = later (operand ∷ k) h in (g.0, (expr.Not line g.1.0, (refl, (ts, (one x.Not, refl, refl), g.1.1))), g.2)
+  on-operand x.Minus k b h = let g = later (operand ∷ k) h in (g.0, (expr.Negate line g.1.0, (refl, (ts, (one x.Minus, refl, refl), g.1.1))), g.2)
   on-operand _ k b h = not_here b (length ts) h
 
   on-tail : (u : Terminal) (k : State) (other : Option State) (b : Bool) (o : Option Operator) → operator_of u ≡ o
@@ -189,17 +192,17 @@ module _ (text : List ℕ) (line : ℕ) (marks : Marks) (ts : List Lexeme) (late
     where
       fielded : GivesAll (name_next ∷ selecting f ∷ k) ts → GivesAll (selecting f ∷ k) (one x.Dot ∷ ts)
       fielded (m1, (n, (t, both, w)), (m2, (s, (m, hs, c)), rest)) =
-          (m2, (selector_then (field t.line n) s, (m, (m1, (ts, (one x.Dot, refl, refl), (rw w refl, (t, both, w))), hs), c)), rest)
+          (m2, (selector_then (expr.Field t.line n) s, (m, (m1, (ts, (one x.Dot, refl, refl), (rw w refl, (t, both, w))), hs), c)), rest)
   on-selector f x.OpenBracket k other b go h = indexed (later (operand ∷ more_tails ∷ comma_or_bracket ∷ selecting f ∷ k) h)
     where
       indexed : GivesAll (operand ∷ more_tails ∷ comma_or_bracket ∷ selecting f ∷ k) ts → GivesAll (selecting f ∷ k) (one x.OpenBracket ∷ ts)
       indexed (m1, ho, (m2, ht, (m3, (es, (m4, hm, hc)), (m5, (s, (m, hs, c)), rest)))) =
           let e = whole ts m1 m2 ho ht in
-          (m5, (selector_then (index line (expression_then e.0 es)) s, (m, (m3, (refl, (ts, (one x.OpenBracket, refl, refl), (m4, (m2, e.1, hm), hc))), hs), c)), rest)
+          (m5, (selector_then (expr.Index line (expression_then e.0 es)) s, (m, (m3, (refl, (ts, (one x.OpenBracket, refl, refl), (m4, (m2, e.1, hm), hc))), hs), c)), rest)
   on-selector f x.Caret k other b go h = targeted (later (selecting f ∷ k) h)
     where
       targeted : GivesAll (selecting f ∷ k) ts → GivesAll (selecting f ∷ k) (one x.Caret ∷ ts)
-      targeted (m2, (s, (m, hs, c)), rest) = (m2, (selector_then (target line) s, (m, (ts, (refl, (one x.Caret, refl, refl)), hs), c)), rest)
+      targeted (m2, (s, (m, hs, c)), rest) = (m2, (selector_then (expr.Target line) s, (m, (ts, (refl, (one x.Caret, refl, refl)), hs), c)), rest)
   on-selector f _ k other b go h = go h
 
   on-close : (u : Terminal) (k : State) → Goes (on_close u k) false → GivesAll (close_next ∷ k) (one u ∷ ts)
@@ -210,7 +213,7 @@ module _ (text : List ℕ) (line : ℕ) (marks : Marks) (ts : List Lexeme) (late
   argued : (v : Lexeme) (k : State) → GivesAll (operand ∷ more_tails ∷ comma_or_close ∷ k) (v ∷ ts) → GivesAll (argument_next ∷ k) (v ∷ ts)
   argued v k (m1, ho, (m2, ht, (m3, more, rest))) =
       let e = whole (v ∷ ts) m1 m2 ho ht in
-      (m3, (positional e.0, (m2, e.1, more)), rest)
+      (m3, (expr.Positional e.0, (m2, e.1, more)), rest)
 
   on-argument : (u : Terminal) (k : State) → Goes (on_argument u k) false → GivesAll (argument_next ∷ k) (one u ∷ ts)
   on-argument x.Word k h = let g = later (behind_argument ∷ k) h in (g.0, worded (one x.Word) ts g.0 refl g.1, g.2)
@@ -236,6 +239,7 @@ module _ (text : List ℕ) (line : ℕ) (marks : Marks) (ts : List Lexeme) (late
   on-follow calls u k go h = on-call u k (advance k u) (accepts k) go h
   on-follow reference_end u k go h = let g = on-close u k h in (g.0, (no_selectors, (one u ∷ ts, refl, g.1)), g.2)
   on-follow arguments_end u k go h = let g = on-more u k h in (g.0, (no_selectors, (one u ∷ ts, refl, g.1)), g.2)
+  on-follow elsewhere u k go h = (one u ∷ ts, (no_selectors, (one u ∷ ts, refl, refl)), go h)
 
   selected : (v : Lexeme) (k : State) → GivesAll (selecting calls ∷ k) (v ∷ ts) → GivesAll (behind_name ∷ k) (v ∷ ts)
   selected v k (m, s, rest) = (m, inr s, rest)

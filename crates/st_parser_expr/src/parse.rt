@@ -1,11 +1,13 @@
 //! Expressions whose brackets and signs stand no deeper than 64.
 
 ghost use Rattle.std.specs.Prelude.{◌≡◌, ◌≤◌, ◌+◌, ◌-◌, ◌<◌, length, drop, take, IfOk, IfErr, IfSome, IfNone};
-ghost use Rattle.st_tree.specs.ExpressionView.{expression_of};
-ghost use Rattle.st_parser_expr.specs.Beginnings.{Parsed};
-ghost use Rattle.st_parser_expr.specs.Nesting as n;
-ghost use Rattle.st_parser_expr.specs.Promises as m;
-ghost use Rattle.st_parser_expr.specs.Promises.{lexemes_of};
+ghost use Rattle.st_tree.specs.Expression.{expression_of};
+ghost use Rattle.st_parser_expr.specs.Parse.{Parsed};
+ghost use Rattle.st_tree.specs.Nesting as nesting;
+ghost use Rattle.st_parser_expr.specs.Parse as n;
+ghost use Rattle.st_parser_expr.specs.Private.Faults as faults;
+ghost use Rattle.st_parser_expr.specs.Private.Promises as m;
+ghost use Rattle.st_parser_expr.specs.Private.Promises.{lexemes_of};
 
 use crate::cursor::Cursor;
 use crate::depth::{Depth, behind};
@@ -19,7 +21,7 @@ use std::alloc::Global;
 fn longest(alloc: Global, lexemes: &[Lexeme<'_>], at: usize) -> Result<(Expr<u32>, usize), Fault>
     requires { at ≤ length lexemes.now }
     ensures ok { IfOk result (λ y. Parsed (lexemes_of (drop at lexemes.now)) at y.1 (expression_of y.0)) }
-    ensures err { IfErr result (n.HasFault (lexemes_of (drop at lexemes.now)) at) }
+    ensures err { IfErr result (faults.HasFault (lexemes_of (drop at lexemes.now)) at) }
 {
     let mut cursor = Cursor::new(lexemes, at);
     match chain(alloc, &mut cursor, 0) {
@@ -39,10 +41,10 @@ fn fault(stop: Stop, all: usize) -> Fault
 }
 
 /// The first lexeme from `at` on of nesting 65.
-fn first_deep(lexemes: &[Lexeme<'_>], at: usize) -> Option<usize>
+pub fn first_deep(lexemes: &[Lexeme<'_>], at: usize) -> Option<usize>
     requires { at ≤ length lexemes.now }
     ensures found { IfSome result (λ q. n.DeepAt (lexemes_of (drop at lexemes.now)) at q) }
-    ensures none { IfNone result (n.NoneDeep (lexemes_of (drop at lexemes.now)) (length lexemes.now - at)) }
+    ensures none { IfNone result (nesting.NoneDeep (lexemes_of (drop at lexemes.now)) (length lexemes.now - at)) }
 {
     let mut cursor = Cursor::new(lexemes, at);
     let mut depth = Depth {
@@ -88,7 +90,7 @@ pub fn parse_expr(
 }
 
 fn error(e: Fault) -> ParseError
-    ensures { result ≡ n.error_of e }
+    ensures { result ≡ faults.error_of e }
 {
     match e {
         Fault::Syntax(p) => ParseError::Syntax(p),
@@ -98,7 +100,7 @@ fn error(e: Fault) -> ParseError
 
 /// The error where only the lexemes up to and with `q` were read.
 fn deep_error(e: Fault, q: usize) -> ParseError
-    ensures { result ≡ n.deep_error_of e q }
+    ensures { result ≡ faults.deep_error_of e q }
 {
     match e {
         Fault::Syntax(p) => if p > q {

@@ -5,7 +5,9 @@ use Rattle.st_tree.specs.declared.terminal.Terminal.{Terminal}
 use Rattle.st_tree.specs.declared.terminal.Terminal.TheVariants as x
 use Rattle.st_tree.specs.declared.expression.Operator.TheVariants as o
 use Rattle.st_tree.specs.declared.expression.Root.TheVariants as roots
-use Rattle.st_tree.specs.Plain.{Expression, int, chain, call, tail_then, no_tails, no_selectors, selector_then, field, index, expression_then, no_expressions, argument_then, no_arguments, input, assign}
+use Rattle.st_tree.specs.Expression as expr
+use Rattle.st_tree.specs.Expression.{Expression, tail_then, no_tails, no_selectors, selector_then, expression_then, no_expressions, argument_then, no_arguments}
+use Rattle.st_tree.specs.Statement as stmt
 use Rattle.st_tree.specs.Reads.{no_marks}
 use Rattle.st_tree.specs.Grammar.{Lexeme, expression, statement}
 
@@ -14,7 +16,7 @@ abbrev lexeme_of : Terminal → List ℕ → Lexeme
 lexeme_of s text = record { terminal = s; text = text; line = 1; marks = no_marks }
 
 abbrev number : List ℕ → Expression ℕ
-number digits = int 1 digits
+number digits = expr.Int 1 digits
 
 abbrev one : Lexeme
 one = lexeme_of x.Int (codes "1")
@@ -33,7 +35,7 @@ times = lexeme_of x.Times (codes "*")
 
 -- the product is one operand of the sum
 sum_of_product : expression
-    (chain 1 (number (codes "1")) (tail_then 1 o.Plus (chain 1 (number (codes "2")) (tail_then 1 o.Times (number (codes "3")) no_tails)) no_tails)) 0
+    (expr.Chain 1 (number (codes "1")) (tail_then 1 o.Plus (expr.Chain 1 (number (codes "2")) (tail_then 1 o.Times (number (codes "3")) no_tails)) no_tails)) 0
     (one ∷ plus ∷ two ∷ times ∷ three ∷ []) []
 sum_of_product = (
   refl,
@@ -114,8 +116,8 @@ assigned = f ∷ opens ∷ c ∷ assigns ∷ four ∷ close ∷ semicolon ∷ []
 
 -- a target with selectors, and a call with a named input
 assignment : statement
-    (assign 1 1 (roots.Name 1 (codes "A")) (selector_then (index 1 (expression_then (number (codes "1")) no_expressions)) (selector_then (field 1 (codes "B")) no_selectors))
-    (call 1 (roots.Name 1 (codes "F")) no_selectors (argument_then (input 1 (codes "C") (number (codes "4"))) no_arguments)))
+    (stmt.Assign 1 1 (roots.Name 1 (codes "A")) (selector_then (expr.Index 1 (expression_then (number (codes "1")) no_expressions)) (selector_then (expr.Field 1 (codes "B")) no_selectors))
+    (expr.Call 1 (roots.Name 1 (codes "F")) no_selectors (argument_then (expr.Input 1 (codes "C") (number (codes "4"))) no_arguments)))
     (a ∷ open_bracket ∷ one ∷ close_bracket ∷ dot ∷ b ∷ assigns ∷ assigned) []
 assignment = (
   refl,

@@ -36,15 +36,9 @@ use Rattle.st_tree.specs.declared.configuration.Configuration.{Configuration}
 use Rattle.st_tree.specs.declared.unit.Decl.{Decl}
 use Rattle.st_tree.specs.declared.unit.Decl.TheVariants as decls
 use Rattle.st_tree.specs.declared.unit.Unit.{Unit as ProgramText}
-use Rattle.st_tree.specs.SpecView.{spec_of}
-use Rattle.st_tree.specs.InitialView.{initial_of}
-use Rattle.st_tree.specs.StatementView.{statements_of}
-use Rattle.st_tree.specs.Grammar.{Lexeme, Phrase, ◌⋆◌, nothing, never, sign, spelled, word, name, at, marked, optional, spec, initial, body}
-
--- parts one after another, as many as there are
-abbrev pub each : {X : Type 0} → (X → Phrase) → List X → Phrase
-each P [] = nothing
-each P (p ∷ ps) = P p ⋆ each P ps
+use Rattle.st_tree.specs.Initial.{initial_of}
+use Rattle.st_tree.specs.Statement.{statements_of}
+use Rattle.st_tree.specs.Grammar.{Lexeme, Phrase, ◌⋆◌, nothing, never, sign, spelled, word, name, at, marked, optional, each, type_spec, initial, body}
 
 abbrev pub more_names : List Name → Phrase
 more_names [] = nothing
@@ -76,7 +70,7 @@ start_value (Some i) = sign x.Assign ⋆ initial (initial_of i)
 -- [":" type]
 abbrev pub result : Option (TypeSpec ℕ) → Phrase
 result None = nothing
-result (Some s) = sign x.Colon ⋆ spec (spec_of s)
+result (Some s) = sign x.Colon ⋆ type_spec s
 
 -- ---- sections of variables
 
@@ -144,7 +138,7 @@ address (Some text) = sign x.At ⋆ spelled x.Address text
 
 -- item = names [AT address] ":" type [":=" init] ";"
 abbrev pub item : Item ℕ → Phrase
-item i = marked i.marks (names i.names ⋆ address i.address ⋆ sign x.Colon ⋆ spec (spec_of i.kind) ⋆ start_value i.initial ⋆ sign x.Semicolon)
+item i = marked i.marks (names i.names ⋆ address i.address ⋆ sign x.Colon ⋆ type_spec i.kind ⋆ start_value i.initial ⋆ sign x.Semicolon)
 
 abbrev pub section : (Modifier → Bool) → Section ℕ → Phrase
 section allowed s = at s.line (sign (section_terminal s.sort) ⋆ each (modifier_in allowed) s.modifiers ⋆ each item s.items ⋆ sign x.EndVar)
@@ -161,11 +155,11 @@ globals s = λ ts rest. (is_global s.sort ≡ true) × section is_keep s ts rest
 
 -- names ":" type [":=" init] ";"
 abbrev pub field_group : FieldGroup ℕ → Phrase
-field_group g = names g.names ⋆ sign x.Colon ⋆ spec (spec_of g.kind) ⋆ start_value g.initial ⋆ sign x.Semicolon
+field_group g = names g.names ⋆ sign x.Colon ⋆ type_spec g.kind ⋆ start_value g.initial ⋆ sign x.Semicolon
 
 -- spec = type ";" | "(" names ")" ";" | STRUCT { .. } END_STRUCT [";"]
 abbrev pub type_body : TypeBody ℕ → Phrase
-type_body (type.Alias s) = spec (spec_of s) ⋆ sign x.Semicolon
+type_body (type.Alias s) = type_spec s ⋆ sign x.Semicolon
 type_body (type.Enumeration ns) = sign x.Open ⋆ names ns ⋆ sign x.Close ⋆ sign x.Semicolon
 type_body (type.Structure gs) = sign x.Struct ⋆ each field_group gs ⋆ sign x.EndStruct ⋆ optional x.Semicolon
 

@@ -15,7 +15,17 @@ use Rattle.st_tree.specs.declared.expression.Root.TheVariants as roots
 use Rattle.st_tree.specs.declared.statement.Label.{Label}
 use Rattle.st_tree.specs.declared.statement.LabelEnd.{LabelEnd}
 use Rattle.st_tree.specs.declared.statement.LabelEnd.TheVariants as labels
-use Rattle.st_tree.specs.Plain.{Expression, int, typed, time, true_value, false_value, null, place, call, enumerator, ref, now, paren, complement, minus, chain, Expressions, no_expressions, expression_then, Selector, field, index, target, Selectors, no_selectors, selector_then, Argument, positional, input, output, Arguments, no_arguments, argument_then, Tails, no_tails, tail_then, Spec, elementary, named, array, reference, Initial, value, list, fields, Part, one, repeated, Parts, no_parts, part_then, Fields, no_fields, field_then, Statement, empty, assign, attempt, call_of, exit, continue, return, if_of, case_of, for, while, repeat, Statements, no_statements, statement_then, Branches, no_branches, branch_then, Cases, no_cases, case_then, Otherwise, no_else, else_of}
+use Rattle.st_tree.specs.declared.type_spec.Bounds.{Bounds}
+use Rattle.st_tree.specs.declared.type_spec.ArraySpec.{ArraySpec}
+use Rattle.st_tree.specs.declared.type_spec.SimpleSpec.{SimpleSpec}
+use Rattle.st_tree.specs.declared.type_spec.SimpleSpec.TheVariants as simple
+use Rattle.st_tree.specs.declared.type_spec.TypeSpec.{TypeSpec}
+use Rattle.st_tree.specs.Expression as expr
+use Rattle.st_tree.specs.Expression.{Expression, Expressions, no_expressions, expression_then, Selector, Selectors, no_selectors, selector_then, Argument, Arguments, no_arguments, argument_then, Tails, no_tails, tail_then, expression_of}
+use Rattle.st_tree.specs.Initial as init
+use Rattle.st_tree.specs.Initial.{Initial, Part, Parts, no_parts, part_then, FieldInits, no_fields, field_then}
+use Rattle.st_tree.specs.Statement as stmt
+use Rattle.st_tree.specs.Statement.{Statement, Statements, no_statements, statement_then, Branches, no_branches, branch_then, Cases, no_cases, case_then, Otherwise}
 
 -- a token without its place in the text, with the marks between the token before it and it
 pub record Lexeme : Type 0 where
@@ -150,21 +160,21 @@ SameLine line row P = λ ts rest. (line ≡ row) × P ts rest
 abbrev mutual
   -- an expression whose operators bind at least as tightly as l
   pub expression : Expression ℕ → ℕ → Phrase
-  expression (int line digits) l = at line (spelled x.Int digits)
-  expression (typed line k v) l = at line (sign (x.Kind k) ⋆ sign x.Hash ⋆ literal v)
-  expression (time line text) l = at line (spelled x.Duration text)
-  expression (true_value line) l = at line (sign x.True)
-  expression (false_value line) l = at line (sign x.False)
-  expression (null line) l = at line (sign x.Null)
-  expression (place line r s) l = at line (root r ⋆ selectors s)
-  expression (call line r s xs) l = at line (root r ⋆ selectors s ⋆ sign x.Open ⋆ arguments xs ⋆ sign x.Close)
-  expression (enumerator line t later n) l = at line (word t ⋆ sign x.Hash ⋆ at later (word n))
-  expression (ref line r s) l = at line (sign x.Ref ⋆ sign x.Open ⋆ root r ⋆ selectors s ⋆ sign x.Close)
-  expression (now line) l = at line (sign (x.Kind kind.Time) ⋆ sign x.Open ⋆ sign x.Close)
-  expression (paren line e) l = at line (sign x.Open ⋆ expression e 0 ⋆ sign x.Close)
-  expression (complement line e) l = at line (sign x.Not ⋆ expression e 7)
-  expression (minus line e) l = at line (sign x.Minus ⋆ expression e 7)
-  expression (chain line e ts) l = at line (some_level l (λ k. expression e (suc k) ⋆ first_tail ts line k))
+  expression (expr.Int line digits) l = at line (spelled x.Int digits)
+  expression (expr.Typed line k v) l = at line (sign (x.Kind k) ⋆ sign x.Hash ⋆ literal v)
+  expression (expr.Time line text) l = at line (spelled x.Duration text)
+  expression (expr.True line) l = at line (sign x.True)
+  expression (expr.False line) l = at line (sign x.False)
+  expression (expr.Null line) l = at line (sign x.Null)
+  expression (expr.Place line r s) l = at line (root r ⋆ selectors s)
+  expression (expr.Call line r s xs) l = at line (root r ⋆ selectors s ⋆ sign x.Open ⋆ arguments xs ⋆ sign x.Close)
+  expression (expr.Enumerator line t later n) l = at line (word t ⋆ sign x.Hash ⋆ at later (word n))
+  expression (expr.Ref line r s) l = at line (sign x.Ref ⋆ sign x.Open ⋆ root r ⋆ selectors s ⋆ sign x.Close)
+  expression (expr.Now line) l = at line (sign (x.Kind kind.Time) ⋆ sign x.Open ⋆ sign x.Close)
+  expression (expr.Paren line e) l = at line (sign x.Open ⋆ expression e 0 ⋆ sign x.Close)
+  expression (expr.Not line e) l = at line (sign x.Not ⋆ expression e 7)
+  expression (expr.Negate line e) l = at line (sign x.Minus ⋆ expression e 7)
+  expression (expr.Chain line e ts) l = at line (some_level l (λ k. expression e (suc k) ⋆ first_tail ts line k))
 
   -- one operator and operand, and more
   pub first_tail : Tails ℕ → ℕ → ℕ → Phrase
@@ -181,9 +191,9 @@ abbrev mutual
 
   -- "." name | "[" expr { "," expr } "]" | "^"
   pub selector : Selector ℕ → Phrase
-  selector (field line n) = sign x.Dot ⋆ at line (word n)
-  selector (index line es) = at line (sign x.OpenBracket ⋆ first_expression es ⋆ sign x.CloseBracket)
-  selector (target line) = at line (sign x.Caret)
+  selector (expr.Field line n) = sign x.Dot ⋆ at line (word n)
+  selector (expr.Index line es) = at line (sign x.OpenBracket ⋆ first_expression es ⋆ sign x.CloseBracket)
+  selector (expr.Target line) = at line (sign x.Caret)
 
   -- expr { "," expr }
   pub first_expression : Expressions ℕ → Phrase
@@ -205,34 +215,50 @@ abbrev mutual
 
   -- expr | name ":=" expr | name "=>" place
   pub argument : Argument ℕ → Phrase
-  argument (positional e) = expression e 0
-  argument (input line n e) = at line (word n) ⋆ sign x.Assign ⋆ expression e 0
-  argument (output line n later r s) = at line (word n) ⋆ sign x.Sends ⋆ at later (root r ⋆ selectors s)
+  argument (expr.Positional e) = expression e 0
+  argument (expr.Input line n e) = at line (word n) ⋆ sign x.Assign ⋆ expression e 0
+  argument (expr.Output line n later r s) = at line (word n) ⋆ sign x.Sends ⋆ at later (root r ⋆ selectors s)
 
 -- ---- types and initial values
 
--- expr ".." expr { "," expr ".." expr }
-abbrev pub more_ranges : List (Expression ℕ × Expression ℕ) → Phrase
+-- parts one after another, as many as there are
+abbrev pub each : {X : Type 0} → (X → Phrase) → List X → Phrase
+each P [] = nothing
+each P (p ∷ ps) = P p ⋆ each P ps
+
+-- range = expr ".." expr
+abbrev pub range : Bounds ℕ → Phrase
+range b = expression (expression_of b.low) 0 ⋆ sign x.Range ⋆ expression (expression_of b.high) 0
+
+abbrev pub more_ranges : List (Bounds ℕ) → Phrase
 more_ranges [] = nothing
-more_ranges (r ∷ rs) = sign x.Comma ⋆ expression r.0 0 ⋆ sign x.Range ⋆ expression r.1 0 ⋆ more_ranges rs
+more_ranges (b ∷ bs) = sign x.Comma ⋆ range b ⋆ more_ranges bs
 
-abbrev pub ranges : List (Expression ℕ × Expression ℕ) → Phrase
+-- range { "," range }
+abbrev pub ranges : List (Bounds ℕ) → Phrase
 ranges [] = never
-ranges (r ∷ rs) = expression r.0 0 ⋆ sign x.Range ⋆ expression r.1 0 ⋆ more_ranges rs
+ranges (b ∷ bs) = range b ⋆ more_ranges bs
 
--- elementary | name | ARRAY "[" range { "," range } "]" OF type | REF_TO name
-abbrev pub spec : Spec ℕ → Phrase
-spec (elementary line k) = at line (sign (x.Kind k))
-spec (named line n) = at line (word n)
-spec (array line rs s) = at line (sign x.Array ⋆ sign x.OpenBracket ⋆ ranges rs ⋆ sign x.CloseBracket ⋆ sign x.Of ⋆ spec s)
-spec (reference line later n) = at line (sign x.RefTo ⋆ at later (word n))
+-- ARRAY "[" range { "," range } "]" OF
+abbrev pub array_spec : ArraySpec ℕ → Phrase
+array_spec a = at a.note (sign x.Array ⋆ sign x.OpenBracket ⋆ ranges a.bounds ⋆ sign x.CloseBracket ⋆ sign x.Of)
+
+-- elementary | name | REF_TO name
+abbrev pub simple_spec : SimpleSpec ℕ → Phrase
+simple_spec (simple.Elementary line k) = at line (sign (x.Kind k))
+simple_spec (simple.Named line n) = at line (word n)
+simple_spec (simple.Reference line later n) = at line (sign x.RefTo ⋆ at later (word n))
+
+-- type = elementary | name | ARRAY .. OF type | REF_TO name
+abbrev pub type_spec : TypeSpec ℕ → Phrase
+type_spec t = each array_spec t.arrays ⋆ simple_spec t.element
 
 abbrev mutual
   -- expr | "[" part { "," part } "]" | "(" name ":=" init { "," name ":=" init } ")"
   pub initial : Initial ℕ → Phrase
-  initial (value e) = expression e 0
-  initial (list line ps) = at line (sign x.OpenBracket ⋆ first_part ps ⋆ sign x.CloseBracket)
-  initial (fields line fs) = at line (sign x.Open ⋆ first_field fs ⋆ sign x.Close)
+  initial (init.Value e) = expression e 0
+  initial (init.Array line ps) = at line (sign x.OpenBracket ⋆ first_part ps ⋆ sign x.CloseBracket)
+  initial (init.Fields line fs) = at line (sign x.Open ⋆ first_field fs ⋆ sign x.Close)
 
   pub first_part : Parts ℕ → Phrase
   first_part no_parts = never
@@ -244,14 +270,14 @@ abbrev mutual
 
   -- init | int "(" init ")"
   pub part : Part ℕ → Phrase
-  part (one i) = initial i
-  part (repeated line digits i) = at line (spelled x.Int digits ⋆ sign x.Open ⋆ initial i ⋆ sign x.Close)
+  part (init.One i) = initial i
+  part (init.Repeated line digits i) = at line (spelled x.Int digits ⋆ sign x.Open ⋆ initial i ⋆ sign x.Close)
 
-  pub first_field : Fields ℕ → Phrase
+  pub first_field : FieldInits ℕ → Phrase
   first_field no_fields = never
   first_field (field_then line n i fs) = at line (word n) ⋆ sign x.Assign ⋆ initial i ⋆ more_fields fs
 
-  pub more_fields : Fields ℕ → Phrase
+  pub more_fields : FieldInits ℕ → Phrase
   more_fields no_fields = nothing
   more_fields (field_then line n i fs) = sign x.Comma ⋆ at line (word n) ⋆ sign x.Assign ⋆ initial i ⋆ more_fields fs
 
@@ -290,19 +316,19 @@ step_by (Some e) = sign x.By ⋆ expression e 0
 
 abbrev mutual
   pub statement : Statement ℕ → Phrase
-  statement (empty line) = at line (sign x.Semicolon)
-  statement (assign line note r s e) = at line (at note (root r ⋆ selectors s) ⋆ sign x.Assign ⋆ expression e 0 ⋆ sign x.Semicolon)
-  statement (attempt line note r s e) = at line (at note (root r ⋆ selectors s) ⋆ sign x.Attempt ⋆ expression e 0 ⋆ sign x.Semicolon)
-  statement (call_of line note r s xs) = at line (at note (root r ⋆ selectors s) ⋆ sign x.Open ⋆ arguments xs ⋆ sign x.Close ⋆ sign x.Semicolon)
-  statement (exit line) = at line (sign x.Exit ⋆ sign x.Semicolon)
-  statement (continue line) = at line (sign x.Continue ⋆ sign x.Semicolon)
-  statement (return line) = at line (sign x.Return ⋆ sign x.Semicolon)
-  statement (if_of line bs other) = at line (sign x.If ⋆ first_branch bs ⋆ otherwise other ⋆ sign x.EndIf)
-  statement (case_of line e cs other) = at line (sign x.Case ⋆ expression e 0 ⋆ sign x.Of ⋆ cases cs ⋆ otherwise other ⋆ sign x.EndCase)
-  statement (for line note n from to by ss) =
+  statement (stmt.Empty line) = at line (sign x.Semicolon)
+  statement (stmt.Assign line note r s e) = at line (at note (root r ⋆ selectors s) ⋆ sign x.Assign ⋆ expression e 0 ⋆ sign x.Semicolon)
+  statement (stmt.Attempt line note r s e) = at line (at note (root r ⋆ selectors s) ⋆ sign x.Attempt ⋆ expression e 0 ⋆ sign x.Semicolon)
+  statement (stmt.Call line note r s xs) = at line (at note (root r ⋆ selectors s) ⋆ sign x.Open ⋆ arguments xs ⋆ sign x.Close ⋆ sign x.Semicolon)
+  statement (stmt.Exit line) = at line (sign x.Exit ⋆ sign x.Semicolon)
+  statement (stmt.Continue line) = at line (sign x.Continue ⋆ sign x.Semicolon)
+  statement (stmt.Return line) = at line (sign x.Return ⋆ sign x.Semicolon)
+  statement (stmt.If line bs other) = at line (sign x.If ⋆ first_branch bs ⋆ otherwise other ⋆ sign x.EndIf)
+  statement (stmt.Case line e cs other) = at line (sign x.Case ⋆ expression e 0 ⋆ sign x.Of ⋆ cases cs ⋆ otherwise other ⋆ sign x.EndCase)
+  statement (stmt.For line note n from to by ss) =
       at line (sign x.For ⋆ at note (word n) ⋆ sign x.Assign ⋆ expression from 0 ⋆ sign x.To ⋆ expression to 0 ⋆ step_by by ⋆ sign x.Do ⋆ body ss ⋆ sign x.EndFor)
-  statement (while line e ss) = at line (sign x.While ⋆ expression e 0 ⋆ sign x.Do ⋆ body ss ⋆ sign x.EndWhile)
-  statement (repeat line ss e) = at line (sign x.Repeat ⋆ body ss ⋆ sign x.Until ⋆ expression e 0 ⋆ sign x.EndRepeat)
+  statement (stmt.While line e ss) = at line (sign x.While ⋆ expression e 0 ⋆ sign x.Do ⋆ body ss ⋆ sign x.EndWhile)
+  statement (stmt.Repeat line ss e) = at line (sign x.Repeat ⋆ body ss ⋆ sign x.Until ⋆ expression e 0 ⋆ sign x.EndRepeat)
 
   pub body : Statements ℕ → Phrase
   body no_statements = nothing
@@ -319,8 +345,8 @@ abbrev mutual
 
   -- [ELSE body]
   pub otherwise : Otherwise ℕ → Phrase
-  otherwise no_else = nothing
-  otherwise (else_of ss) = sign x.Else ⋆ body ss
+  otherwise stmt.Nothing = nothing
+  otherwise (stmt.Else ss) = sign x.Else ⋆ body ss
 
   -- { label { "," label } ":" body }
   pub cases : Cases ℕ → Phrase

@@ -3,7 +3,7 @@
 use Rattle.std.specs.Prelude.{ℕ, Bool, ◌-◌, ◌&&◌, ◌||◌, List, length, take, drop, codes}
 use Rattle.std.specs.List.{list_all, take_while}
 use Rattle.plc_text.specs.Words.{opens, begins, behind_all, is_blank, is_word_character}
-use Rattle.st_tree.specs.Words.{is_name}
+use Rattle.st_tree.specs.Terminal.{is_name}
 
 -- what stands between the braces
 abbrev pub inside : List ℕ → List ℕ

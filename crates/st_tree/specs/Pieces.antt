@@ -2,6 +2,7 @@
 use Rattle.std.specs.Prelude.{ℕ, Bool, true, false, ◌&&◌, ◌||◌, not, nat_eq, List, [], ◌∷◌, ◌++◌, length, drop, codes, if◌then◌else◌}
 use Rattle.std.specs.List.{list_all, list_any}
 use Rattle.plc_text.specs.Words.{spells, is_one_of, opens, begins, behind_all, is_blank, is_digit, is_binary_digit, is_octal_digit, is_hexadecimal_digit, is_word_character, is_word, is_number}
+use Rattle.st_tree.specs.Terminal.{is_symbol}
 
 -- one character of white space
 abbrev pub is_white_space : List ℕ → Bool
@@ -103,15 +104,6 @@ is_location text =
 unfoldable pub is_address : List ℕ → Bool
 is_address text =
     opens_one_of (codes "%I" ∷ codes "%Q" ∷ codes "%M" ∷ []) text && is_location (drop 2 text)
-
-abbrev pub symbols : List (List ℕ)
-symbols =
-    codes ":=" ∷ codes "?=" ∷ codes "=>" ∷ codes ".." ∷ codes "<=" ∷ codes ">=" ∷ codes "<>" ∷ codes ":" ∷ codes ";" ∷
-    codes "," ∷ codes "." ∷ codes "(" ∷ codes ")" ∷ codes "[" ∷ codes "]" ∷ codes "^" ∷ codes "#" ∷ codes "+" ∷
-    codes "-" ∷ codes "*" ∷ codes "/" ∷ codes "=" ∷ codes "<" ∷ codes ">" ∷ codes "&" ∷ []
-
-abbrev pub is_symbol : List ℕ → Bool
-is_symbol text = is_one_of symbols text
 
 abbrev pub is_number_sign : ℕ → Bool
 is_number_sign c = nat_eq c 35

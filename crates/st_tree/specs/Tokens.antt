@@ -7,7 +7,7 @@ use Rattle.plc_text.specs.declared.lines.Span.{Span}
 use Rattle.st_tree.specs.declared.token.TokenKind.{TokenKind}
 use Rattle.st_tree.specs.declared.token.TokenKind.TheVariants.{Word, Keyword, Int, Time, Address, Symbol, Mark}
 use Rattle.plc_text.specs.Words.{is_word}
-use Rattle.st_tree.specs.Words.{is_keyword}
+use Rattle.st_tree.specs.Terminal.{is_keyword}
 use Rattle.st_tree.specs.Pieces.{is_white_space, is_comment, is_pragma, is_int, is_time, is_address, is_piece}
 use Rattle.st_tree.specs.Marks.{is_mark}
 

@@ -1,3 +1,5 @@
+//! Configurations, tasks and program instances (IEC 61131-3:2013, 6.8).
+
 use crate::declaration::Section;
 use crate::name::Name;
 use plc_text::{Items, Text};

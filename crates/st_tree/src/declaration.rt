@@ -1,3 +1,5 @@
+//! Declarations: sections of variables, types, interfaces, classes, functions and programs (IEC 61131-3:2013, 6.4 to 6.6).
+
 use crate::initial::Init;
 use crate::marks::Marks;
 use crate::name::{Name, Used};

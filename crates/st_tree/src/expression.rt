@@ -1,3 +1,5 @@
+//! Expressions (IEC 61131-3:2013, 7.3.2).
+
 ghost use Rattle.std.specs.Prelude.{◌≡◌, IfOk};
 
 use plc_text::{Items, NoMemory, Text};

@@ -1,3 +1,5 @@
+//! Initial values as they are written (IEC 61131-3:2013, 6.4.4 and 6.5.1).
+
 use crate::expression::Expr;
 use plc_text::{Items, Text};
 
@@ -7,7 +9,7 @@ use plc_text::{Items, Text};
 pub enum Init<A> {
     Value(Expr<A>),
     /// `[part, ..]`, of an array. The line is that of the bracket.
-    List(u32, Items<Part<A>>),
+    Array(u32, Items<Part<A>>),
     /// `(name := value, ..)`, of a structure or an instance. The line is that of the parenthesis.
     Fields(u32, Items<FieldInit<A>>),
 }

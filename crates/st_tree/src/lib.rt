@@ -2,13 +2,15 @@
 //! node has a note: its line in the text as it is written, or what is found out about it in a checked program.
 #![tactic(auto)]
 
-mod classify;
+mod address;
 mod configuration;
 mod declaration;
+mod duration;
 mod expression;
 mod initial;
 mod marks;
 mod name;
+mod number;
 mod path;
 mod program;
 mod statement;
@@ -19,20 +21,22 @@ mod token;
 mod type_spec;
 mod unit;
 
-pub use classify::terminal_of;
+pub use address::{Area, Width, area_of, bit_of, index_of, width_of};
 pub use configuration::{Configuration, InstanceSpec, Resource, Setting, SettingValue, TaskSpec};
 pub use declaration::{
     ClassDecl, ClassSort, FieldGroup, FunctionDecl, InterfaceDecl, Item, Member, Method, Modifier,
     ProgramDecl, Prototype, Section, SectionSort, TypeBody, TypeDecl,
 };
+pub use duration::{TimeUnit, milliseconds};
 pub use expression::{Argument, Expr, Literal, Operator, Place, Root, Selector, Tail};
 pub use initial::{FieldInit, Init, Part};
 pub use marks::Marks;
 pub use name::{Name, Used};
+pub use number::number_of;
 pub use path::{Path, Step, Steps};
 pub use program::{ConstantDecl, Note, Program, RegionDecl, Target, TaskDecl};
 pub use statement::{Branch, Case, Label, LabelEnd, Otherwise, Stmt};
-pub use terminal::{Terminal, terminal_laws};
+pub use terminal::{Terminal, is_keyword, keyword, symbol, terminal_laws, terminal_of};
 pub use token::{TokenKind, token_laws};
-pub use type_spec::{Bounds, TypeSpec};
+pub use type_spec::{ArraySpec, Bounds, SimpleSpec, TypeSpec};
 pub use unit::{Decl, Unit};

@@ -1,3 +1,5 @@
+//! What the pragmas before a variable say of it.
+
 ghost use Rattle.std.specs.Prelude.{◌≡◌, IfOk};
 ghost use Rattle.st_tree.specs.Reads.{no_marks};
 

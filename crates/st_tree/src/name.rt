@@ -1,3 +1,5 @@
+//! Names, as they are declared and as they are used.
+
 ghost use Rattle.std.specs.Prelude.{◌≡◌, IfOk};
 
 use plc_text::{NoMemory, Text};

@@ -1,3 +1,5 @@
+//! Ways from a region of the store to a value in it.
+
 ghost use Rattle.std.specs.Prelude.{◌≡◌, [], ◌∷◌, ◌++◌, length, IfOk, OnOk, OnErr};
 
 use plc_text::NoMemory;

@@ -1,3 +1,5 @@
+//! A checked program.
+
 use crate::declaration::{ClassDecl, FunctionDecl, InterfaceDecl, ProgramDecl, TypeDecl};
 use crate::initial::Init;
 use crate::marks::Marks;

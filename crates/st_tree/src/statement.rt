@@ -1,3 +1,5 @@
+//! Statements (IEC 61131-3:2013, 7.3.3).
+
 use crate::expression::{Argument, Expr, Literal, Place};
 use plc_text::{Items, Text};
 use st_types::Elem;

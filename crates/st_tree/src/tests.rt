@@ -1,4 +1,9 @@
-use crate::{Expr, Literal, Marks, Name, Step, Steps};
+//! Copies are equal, deep trees are let go, and what numbers, durations and addresses stand for.
+
+use crate::{
+    Area, Expr, Literal, Marks, Name, Step, Steps, Width, area_of, bit_of, index_of, milliseconds,
+    number_of, width_of,
+};
 use plc_text::{NoMemory, Text};
 use st_types::Boxed;
 use std::alloc::Global;
@@ -59,4 +64,58 @@ fn a_deep_tree_is_let_go(rt: HostRuntime) -> Result<(), NoMemory> {
     let tree = nest(rt.alloc(), 1300)?;
     assert!(rt; matches!(tree, Expr::Paren(_, _)));
     Ok(())
+}
+
+#[test]
+fn numbers_end_at_64_bits(rt: HostRuntime) {
+    for (text, want) in [
+        ("0", Some(0)),
+        ("1_000", Some(1000)),
+        ("2#1010_1010", Some(170)),
+        ("8#17", Some(15)),
+        ("16#fF", Some(255)),
+        ("18446744073709551615", Some(18_446_744_073_709_551_615)),
+        ("18446744073709551616", None),
+        ("16#1_0000_0000_0000_0000", None),
+    ] {
+        assert!(rt; number_of(text) == want, "{text}");
+    }
+}
+
+#[test]
+fn durations_end_at_32_bits(rt: HostRuntime) {
+    for (text, want) in [
+        ("T#0ms", Some(0)),
+        ("t#1d2h3m4s5ms", Some(93_784_005)),
+        ("TIME#1M_30S", Some(90_000)),
+        ("T#4294967295ms", Some(4_294_967_295)),
+        ("T#4294967296ms", None),
+        ("T#50d", None),
+        ("T#18446744073709551616ms", None),
+    ] {
+        assert!(rt; milliseconds(text) == want, "{text}");
+    }
+}
+
+#[test]
+fn addresses_have_area_width_and_numbers(rt: HostRuntime) {
+    for (text, area, width, index, bit) in [
+        ("%IX0.7", Area::Input, Width::Bit, Some(0), Some(7)),
+        ("%q12.3", Area::Output, Width::Bit, Some(12), Some(3)),
+        ("%MB5", Area::Memory, Width::Byte, Some(5), Some(0)),
+        ("%iw007", Area::Input, Width::Word, Some(7), Some(0)),
+        ("%QD0", Area::Output, Width::DoubleWord, Some(0), Some(0)),
+        (
+            "%QL18446744073709551616",
+            Area::Output,
+            Width::LongWord,
+            None,
+            Some(0),
+        ),
+    ] {
+        assert!(rt; area_of(text) == area, "{text}");
+        assert!(rt; width_of(text) == width, "{text}");
+        assert!(rt; index_of(text) == index, "{text}");
+        assert!(rt; bit_of(text) == bit, "{text}");
+    }
 }

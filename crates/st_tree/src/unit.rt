@@ -1,3 +1,5 @@
+//! A program text as a whole.
+
 use crate::configuration::Configuration;
 use crate::declaration::{ClassDecl, FunctionDecl, InterfaceDecl, ProgramDecl, Section, TypeDecl};
 use plc_text::Items;

@@ -1,0 +1,66 @@
+-- What the parser of expressions answers: the longest expression, or why there is none, with the limit on nesting.
+use Rattle.std.specs.Prelude.{ℕ, suc, ◌+◌, ◌-◌, ◌<◌, ◌≤◌, List, [], ◌++◌, take, length}
+use Rattle.st_tree.specs.Expression.{Expression}
+use Rattle.st_tree.specs.Grammar.{Lexeme, expression}
+use Rattle.st_tree.specs.Nesting.{NoneDeep, FirstDeep}
+use Rattle.st_parser_expr.specs.declared.stop.ParseError.{ParseError}
+use Rattle.st_parser_expr.specs.declared.stop.ParseError.TheVariants.{Syntax, Nesting, NoMemory}
+
+-- what lexemes may be as a whole
+abbrev pub Language : Type 1
+Language = List Lexeme → Type 0
+
+-- one of the language begins with the lexemes
+abbrev pub Begins : Language → List Lexeme → Type 0
+Begins L ts = (after : List Lexeme) × L (ts ++ after)
+
+-- p is the first place such that nothing of the language begins with the lexemes up to and with it, or their number where there is
+-- no such place
+pub record StopsAt (L : Language) (ts : List Lexeme) (p : ℕ) : Type 0 where
+  pub within : p ≤ length ts
+  pub begins : Begins L (take p ts)
+  pub first : p < length ts → Begins L (take (suc p) ts) → ⊥
+
+-- the lexemes spell the expression
+abbrev pub Spells : List Lexeme → Expression ℕ → Type 0
+Spells ts e = expression e 0 ts []
+
+abbrev pub IsExpression : Language
+IsExpression ts = (e : Expression ℕ) × Spells ts e
+
+-- the lexemes stand from `start` on; those up to `end` are the expression, and no longer ones begin one
+pub record Parsed (ts : List Lexeme) (start end : ℕ) (e : Expression ℕ) : Type 0 where
+  pub starts : start ≤ end
+  pub stops : StopsAt IsExpression ts (end - start)
+  pub spelled : Spells (take (end - start) ts) e
+
+-- the lexemes stand from `start` on; they stop at p, and those before it are no expression
+pub record Refused (ts : List Lexeme) (start p : ℕ) : Type 0 where
+  pub starts : start ≤ p
+  pub stops : StopsAt IsExpression ts (p - start)
+  pub none : (e : Expression ℕ) → Spells (take (p - start) ts) e → ⊥
+
+-- the answer where an expression ends: no lexeme before its end is too deep
+pub record ParsedWithin (ts : List Lexeme) (start end : ℕ) (e : Expression ℕ) : Type 0 where
+  pub parsed : Parsed ts start end e
+  pub flat : NoneDeep ts (end - start)
+
+pub record RefusedWithin (ts : List Lexeme) (start p : ℕ) : Type 0 where
+  pub refused : Refused ts start p
+  pub flat : NoneDeep ts (p - start)
+
+pub record DeepAt (ts : List Lexeme) (start q : ℕ) : Type 0 where
+  pub starts : start ≤ q
+  pub first : FirstDeep ts (q - start)
+
+-- the first lexeme of nesting 65, with which an expression still begins
+pub record TooDeep (ts : List Lexeme) (start q : ℕ) : Type 0 where
+  pub starts : start ≤ q
+  pub first : FirstDeep ts (q - start)
+  pub begins : Begins IsExpression (take (q - start + 1) ts)
+
+-- why no expression was read
+abbrev pub HasCause : List Lexeme → ℕ → ParseError → Type 0
+HasCause ts start (Syntax p) = RefusedWithin ts start p
+HasCause ts start (Nesting q) = TooDeep ts start q
+HasCause ts start NoMemory = Unit {0}
