@@ -1,6 +1,6 @@
 -- Texts of bytes above a number: fields are of bytes above the space (32), and lines of bytes above LF.
 use Rattle.std.proofs.Common.{◌≡◌, ◌⊎◌, inl, inr, ⊎_elim, ℕ, zero, suc, ◌+◌, ◌%◌, ◌/◌, ◌<◌, ◌≤◌, Bool, true, false, ◌&&◌, ◌||◌, List, [], ◌∷◌, ◌++◌, refl, sym, subst, arith}
-use Rattle.std.specs.Prelude.{codes, nat_lt, nat_le, nat_eq, cond}
+use Rattle.std.specs.Prelude.{codes, nat_lt, nat_le, nat_eq, cond, not}
 use Rattle.std.specs.Fmt.{decimal, digits, digits_onto, digit_glyph}
 use Rattle.std.specs.List.{list_all, AllByRecursion}
 use Rattle.std.specs.Str.{bytes_eq}
@@ -18,6 +18,7 @@ use Rattle.plc_text.specs.declared.fault.FaultKind.{FaultKind}
 use Rattle.plc_text.specs.declared.fault.FaultKind.TheVariants.{Divide}
 use Rattle.plc_text.specs.Text.{folded}
 use Rattle.plc_text.specs.Words.{same, is_letter, is_word_character, is_word, is_upper_word}
+use Rattle.st_tree.specs.Terminal.{is_keyword}
 use Rattle.cycle_journal.specs.Writing.{image}
 use Rattle.cycle_journal.specs.Fits.{is_declaration}
 use Rattle.plc_text.proofs.LineLaws.{HoldsNo}
@@ -97,8 +98,9 @@ name_above text h = word_above text (and_parts (is_word text) (same (folded text
 -- a text of a name or a dash
 pub declaration_above : (text : List ℕ) → is_declaration text ≡ true → Above 32 text
 declaration_above text h =
-    ⊎_elim (λ e. let same = (bytes_eq-Decides text (codes "-")).0 e in subst (Above 32) (sym same) refl) (name_above text)
-    (one_true (bytes_eq text (codes "-")) (is_upper_word text) h)
+    ⊎_elim (λ e. let same = (bytes_eq-Decides text (codes "-")).0 e in subst (Above 32) (sym same) refl)
+    (λ e. name_above text (and_parts (is_upper_word text) (not (is_keyword text)) e).0)
+    (one_true (bytes_eq text (codes "-")) (is_upper_word text && not (is_keyword text)) h)
 
 -- a hexadecimal digit is above the space
 hex_digit_above : (b : ℕ) → is_hex_digit b ≡ true → 32 < b

@@ -1,8 +1,9 @@
 -- Which entries are ones for these plays.
-use Rattle.std.specs.Prelude.{◌≡◌, ℕ, ◌+◌, ◌≤◌, ◌<◌, ◌^◌, Bool, true, false, ◌||◌, List, length, codes, Option, Some}
+use Rattle.std.specs.Prelude.{◌≡◌, ℕ, ◌+◌, ◌≤◌, ◌<◌, ◌^◌, Bool, true, false, ◌&&◌, ◌||◌, not, List, length, codes, Option, Some}
 use Rattle.std.specs.List.{AllByRecursion}
 use Rattle.std.specs.Str.{bytes_eq}
 use Rattle.plc_text.specs.Words.{is_upper_word}
+use Rattle.st_tree.specs.Terminal.{is_keyword}
 use Rattle.cycle_journal.specs.declared.play.Play.{Play}
 use Rattle.cycle_journal.specs.declared.play.Play.TheVariants.{Cycle, Change, Reset}
 use Rattle.cycle_journal.specs.declared.entry.Entry.{Entry}
@@ -23,9 +24,9 @@ may_answer (Reset task) Released = true
 may_answer (Reset task) (NoTask since) = true
 may_answer _ _ = false
 
--- what a refusal names: a dash, or a name in upper case
+-- what a refusal names: a dash, or a name in upper case, which is no keyword
 abbrev pub is_declaration : List ℕ → Bool
-is_declaration text = bytes_eq text (codes "-") || is_upper_word text
+is_declaration text = bytes_eq text (codes "-") || (is_upper_word text && not (is_keyword text))
 
 -- The answer's numbers are those of the machine, there are at most 256 bytes of outputs, a refusal names a declaration, and
 -- what is loaded is the version after the one that was loaded before.
