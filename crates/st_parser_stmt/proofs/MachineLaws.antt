@@ -7,8 +7,8 @@ use Rattle.st_tree.specs.Reads.{no_marks}
 use Rattle.st_parser_expr.specs.Private.Machine as e
 use Rattle.st_parser_expr.specs.Private.Machine.{NoOperator, NoSelector, IsNoSelector, Ending}
 use Rattle.st_parser_expr.proofs.MachineLaws as l
-use Rattle.st_parser_stmt.specs.Numbers.{same_terminal}
-use Rattle.st_parser_stmt.specs.Machine.{Quiet, IsNoStatement, branches_end, until, inside, need, body, statement_next, behind_place, by_or_do, branch_next, otherwise_next, first_case, case_body, case_word, case_dot, case_field, const_next, const_tail, behind_label, label_more, State, on_need, on_inside, on_otherwise, on_statement, advance, accepts, go_on, machine, NoStatement, IsQuiet}
+use Rattle.st_parser_stmt.specs.Private.Numbers.{same_terminal}
+use Rattle.st_parser_stmt.specs.Private.Machine.{Quiet, IsNoStatement, branches_end, until, inside, need, body, statement_next, behind_place, by_or_do, branch_next, otherwise_next, first_case, case_body, case_word, case_dot, case_field, const_next, const_tail, behind_label, label_more, init_next, init_open, init_word, fields_more, part_next, part_int, parts_more, State, on_need, on_inside, on_otherwise, on_statement, advance, accepts, go_on, machine, NoStatement, IsQuiet}
 use Rattle.st_parser_stmt.proofs.NumberLaws.{same-self}
 
 -- ---- one token
@@ -188,6 +188,14 @@ given (const_tail ∷ K) =
     record { tokens = one x.Hash ∷ one x.Word ∷ (given K).tokens; accepted = need-one K x.Word (refl, tt) (given K).tokens ∙ (given K).accepted; quiet = (refl, tt) }
 given (behind_label ∷ K) = record { tokens = one x.Colon ∷ one x.EndCase ∷ (given K).tokens; accepted = otherwise-one K x.EndCase tt (refl, tt) (given K).tokens (λ e. cc) ∙ (given K).accepted; quiet = (refl, tt) }
 given (label_more ∷ K) = record { tokens = one x.Colon ∷ one x.EndCase ∷ (given K).tokens; accepted = otherwise-one K x.EndCase tt (refl, tt) (given K).tokens (λ e. cc) ∙ (given K).accepted; quiet = (refl, tt) }
+given (init_next ∷ K) = let g = given_inside (e.more_tails ∷ []) K (given K) in record { tokens = one x.Int ∷ g.tokens; accepted = g.accepted; quiet = (refl, tt) }
+given (init_open ∷ K) = let g = given_inside (e.more_tails ∷ e.close_next ∷ e.more_tails ∷ []) K (given K) in record { tokens = one x.Int ∷ g.tokens; accepted = g.accepted; quiet = (refl, tt) }
+given (init_word ∷ K) = let g = given_inside (e.more_tails ∷ []) K (given K) in record { tokens = one x.Close ∷ g.tokens; accepted = g.accepted; quiet = (refl, tt) }
+given (fields_more ∷ K) = record { tokens = one x.Close ∷ (given K).tokens; accepted = (given K).accepted; quiet = (refl, tt) }
+given (part_next ∷ K) = let g = given_inside (e.more_tails ∷ []) K (given K) in record { tokens = one x.True ∷ g.tokens; accepted = g.accepted; quiet = (refl, tt) }
+given (part_int ∷ K) =
+    record { tokens = one x.Open ∷ one x.Int ∷ one x.Close ∷ (given K).tokens; accepted = need-one K x.Close (refl, tt) (given K).tokens ∙ (given K).accepted; quiet = (refl, tt) }
+given (parts_more ∷ K) = record { tokens = one x.CloseBracket ∷ (given K).tokens; accepted = (given K).accepted; quiet = (refl, tt) }
 
 pub completes : (a : List Lexeme) (K : State) (v : Bool) → machine K a ≡ (v, 0) → (b : List Lexeme) × (machine K (a ++ b) ≡ (true, 0))
 completes [] K v h = ((given K).tokens, (given K).accepted)

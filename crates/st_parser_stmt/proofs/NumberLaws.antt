@@ -4,7 +4,7 @@ use Rattle.st_types.specs.declared.elem.Elem.{Elem}
 use Rattle.st_types.specs.declared.elem.Elem.TheVariants as kind
 use Rattle.st_tree.specs.declared.terminal.Terminal.{Terminal}
 use Rattle.st_tree.specs.declared.terminal.Terminal.TheVariants as x
-use Rattle.st_parser_stmt.specs.Numbers.{number, all, same_terminal}
+use Rattle.st_parser_stmt.specs.Private.Numbers.{number, all, same_terminal}
 
 nth : List Terminal → ℕ → Option Terminal
 nth [] n = None

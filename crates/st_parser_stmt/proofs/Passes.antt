@@ -24,9 +24,9 @@ use Rattle.st_parser_expr.proofs.Unique.{selector-sign}
 use Rattle.st_parser_expr.proofs.Viable.{machine-expression}
 use Rattle.st_parser_expr.proofs.Fronts as f
 use Rattle.st_parser_expr.proofs.Fronts.{IsFront, front, both_fronts}
-use Rattle.st_parser_stmt.specs.Numbers.{same_terminal}
-use Rattle.st_parser_stmt.specs.Machine.{Ender, branches_end, until, Quiet, IsNoStatement, inside, need, word_next, place_state, body, statement_next, behind_place, by_or_do, branch_next, otherwise_next, first_case, case_body, case_word, case_dot, case_field, const_next, const_tail, behind_label, label_more, State, on_need, on_inside, on_otherwise, on_branch, on_case_end, on_ender, on_statement, on_placed, on_place, on_const, on_const_word, on_const_tail, on_behind_label, on_case_word, on_case_dot, on_case_body, advance, accepts, go_on, machine, NoStatement}
-use Rattle.st_parser_stmt.specs.Promises.{starts_statement, starts_const, ends_const, is_word, label_behind, label_by, label_at}
+use Rattle.st_parser_stmt.specs.Private.Numbers.{same_terminal}
+use Rattle.st_parser_stmt.specs.Private.Machine.{Ender, branches_end, until, Quiet, IsNoStatement, inside, need, word_next, place_state, body, statement_next, behind_place, by_or_do, branch_next, otherwise_next, first_case, case_body, case_word, case_dot, case_field, const_next, const_tail, behind_label, label_more, State, on_need, on_inside, on_otherwise, on_branch, on_case_end, on_ender, on_statement, on_placed, on_place, on_const, on_const_word, on_const_tail, on_behind_label, on_case_word, on_case_dot, on_case_body, advance, accepts, go_on, machine, NoStatement}
+use Rattle.st_parser_stmt.specs.Private.Promises.{starts_statement, starts_const, ends_const, is_word, label_behind, label_by, label_at}
 use Rattle.st_parser_stmt.proofs.MachineLaws.{on-sign, on-need, on-end, on-otherwise, on_statement-other, inside-passes}
 
 -- ---- what the machine of expressions passes
@@ -106,26 +106,6 @@ no_statement (t ∷ ts) h = not_started t.terminal h
 pub machine-started : (b : Ender) (K : State) (ts : List Lexeme) → starts_statement (next_terminal ts) ≡ true → machine (body b ∷ K) ts ≡ machine (statement_next ∷ body b ∷ K) ts
 machine-started b K [] h = cc
 machine-started b K (t ∷ ts) h = ap (λ o. go_on o (λ K'. machine K' ts) (false, suc (length ts))) (started-same t.terminal (body b ∷ K) (on_ender b t.terminal K) None h)
-
-pub machine-top : (ts : List Lexeme) (v : Bool) (n : ℕ) → machine (statement_next ∷ []) ts ≡ (v, n) → starts_statement (next_terminal ts) ≡ true → machine [] ts ≡ (v, n)
-machine-top [] v n h s = cc
-machine-top (t ∷ ts) v n h s = at t.terminal s h
-  where
-    at : (u : Terminal) → starts_statement (Some u) ≡ true → go_on (on_statement u [] None) (λ K'. machine K' ts) (false, suc (length ts)) ≡ (v, n)
-        → go_on (on_statement u [] None) (λ K'. machine K' ts) (true, suc (length ts)) ≡ (v, n)
-    at x.Semicolon s h = h
-    at x.Word s h = h
-    at x.This s h = h
-    at x.Super s h = h
-    at x.Exit s h = h
-    at x.Continue s h = h
-    at x.Return s h = h
-    at x.If s h = h
-    at x.Case s h = h
-    at x.For s h = h
-    at x.While s h = h
-    at x.Repeat s h = h
-    at _ s h = cc
 
 pub machine-until : (K : State) (s : Terminal) (free : IsNoStatement s) (q : Quiet s) (ts : List Lexeme) → starts_statement (next_terminal ts) ≡ false → machine (body (until s free q) ∷ K) ts ≡ machine (need s q ∷ K) ts
 machine-until K s free q [] h = refl
@@ -596,8 +576,3 @@ mutual
   passes-cases no_cases K ts m h free free' = ap (machine (case_body ∷ K)) h ∙ case-end K m free free'
   passes-cases (case_then ls ss cs) K ts m (m1, hl, (m2, w, (m3, hs, hc))) free free' =
       case-label K ts (labels-label ls ts m1 m2 hl w) ∙ passes-labels ls K ts m1 m2 hl w ∙ passes-case_body ss K m2 m3 hs ∙ passes-cases cs K m3 m hc free free'
-
-pub passes-all : (ss : Statements ℕ) (ts : List Lexeme) → g.body ss ts [] → machine [] ts ≡ (true, 0)
-passes-all no_statements ts h = ap (machine []) h
-passes-all (statement_then s ss) ts (m, h, hs) =
-    machine-top ts true 0 (passes-statement s [] ts m h ∙ passes-all ss m hs) (statement-starts s ts m h)

@@ -1,5 +1,5 @@
 -- What each rule's function has to show.
-use Rattle.std.proofs.Common.{◌≡◌, ℕ, suc, ◌<◌, ◌≤◌, Bool, true, false, List, [], ◌∷◌, ◌++◌, Option, Some, None, length, drop, refl, sym, ◌∙◌, ap, subst, arith, length-append}
+use Rattle.std.proofs.Common.{◌≡◌, ℕ, suc, ◌<◌, ◌≤◌, true, false, List, [], ◌∷◌, ◌++◌, Option, Some, None, length, drop, refl, sym, ◌∙◌, ap, subst, arith, length-append}
 use Rattle.std.specs.Option.{option_map}
 use Rattle.st_types.specs.declared.elem.Elem.{Elem}
 use Rattle.st_tree.specs.declared.terminal.Terminal.{Terminal}
@@ -32,14 +32,14 @@ use Rattle.st_parser_expr.proofs.Rules as r
 use Rattle.st_parser_expr.proofs.Rules.{sign_at, taken, sign-shorter, spelled-shorter, line_sign, line_spelled, line_root}
 use Rattle.st_parser_expr.proofs.Fronts as f
 use Rattle.st_parser_expr.proofs.Fronts.{front, both_fronts, IsHead}
-use Rattle.st_parser_stmt.specs.Numbers.{same_terminal}
+use Rattle.st_parser_stmt.specs.Private.Numbers.{same_terminal}
 use Rattle.st_parser_stmt.specs.declared.statement.Control.{Control}
-use Rattle.st_parser_stmt.specs.Machine.{Ender, branches_end, until, Quiet, IsNoStatement, inside, need, word_next, place_state, body, statement_next, behind_place, by_or_do, branch_next, otherwise_next, first_case, case_body, const_next, const_tail, behind_label, label_more, State, on_need, on_statement, on_placed, on_step, on_label_more, on_behind_label, on_const, on_const_word, on_const_tail, on_otherwise, accepts, advance, go_on, machine}
-use Rattle.st_parser_stmt.specs.Promises.{starts_statement, is_jump, is_behind_place, starts_const, label_at, Fails, Parses, same, for_expression, for_arguments, for_literal, for_word, for_statement, for_placed, for_const, for_label, for_more_labels, for_case_body, for_cases, for_case_end, for_branch, for_condition, for_control, for_turns, for_step, Controlled, ReadsSign, SignFails, ReadsBody, BodyFails, ReadsOtherwise, OtherwiseFails, ReadsThen, ThenFails, ReadsUntil, UntilFails, Ends, AllFails}
+use Rattle.st_parser_stmt.specs.Private.Machine.{Ender, branches_end, until, Quiet, IsNoStatement, inside, need, word_next, place_state, body, statement_next, behind_place, by_or_do, branch_next, otherwise_next, first_case, case_body, const_next, const_tail, behind_label, label_more, State, on_need, on_statement, on_placed, on_step, on_label_more, on_behind_label, on_const, on_const_word, on_const_tail, on_otherwise, accepts, advance, go_on, machine}
+use Rattle.st_parser_stmt.specs.Private.Promises.{starts_statement, is_jump, is_behind_place, starts_const, label_at, Fails, Parses, same, for_expression, for_arguments, for_literal, for_word, for_statement, for_placed, for_const, for_label, for_more_labels, for_case_body, for_cases, for_case_end, for_branch, for_condition, for_control, for_turns, for_step, Controlled, ReadsSign, SignFails, ReadsBody, BodyFails, ReadsOtherwise, OtherwiseFails, ReadsThen, ThenFails, ReadsUntil, UntilFails, Ends}
 use Rattle.st_parser_stmt.proofs.NumberLaws.{same-not}
 use Rattle.st_parser_stmt.proofs.MachineLaws.{on-sign, on-need, on_statement-other, inside-fails}
 use Rattle.st_parser_stmt.proofs.Fronts.{of_statement, of_first_label}
-use Rattle.st_parser_stmt.proofs.Passes.{not_started, passes-inside, passes-place, machine-started, machine-top, machine-until, machine-branches, machine-otherwise, case-statement, case-label, first-label, first-end, case-end}
+use Rattle.st_parser_stmt.proofs.Passes.{not_started, passes-inside, passes-place, machine-started, machine-until, machine-branches, machine-otherwise, case-statement, case-label, first-label, first-end, case-end}
 
 -- ---- exits
 
@@ -896,40 +896,7 @@ pub statement_fails : (ts : List Lexeme) → starts_statement (next_terminal ts)
 statement_fails [] h K = refl
 statement_fails (t ∷ ts) h K = ap (λ o. go_on o (λ K'. machine K' ts) (false, suc (length ts))) (on_statement-other t.terminal K None (not_started t.terminal h))
 
--- ---- all
-
-pub record AllSoFar (found : List (Stmt ℕ)) (old now : List Lexeme) : Type 0 where
-  pub spelled : Onto found old now
-  pub passes : (v : Bool) (n : ℕ) → machine [] now ≡ (v, n) → machine [] old ≡ (v, n)
-  pub shorter : length now ≤ length old
-
-pub all-first : (old : List Lexeme) → AllSoFar [] old old
-all-first old = record { spelled = λ ss rest h. h; passes = λ v n h. h; shorter = omega arith }
-
-pub all-pushed : (found : List (Stmt ℕ)) (s : Stmt ℕ) (old now next : List Lexeme) → AllSoFar found old now → starts_statement (next_terminal now) ≡ true → Parses (statement (statement_of s)) for_statement same now next → AllSoFar (found ++ s ∷ []) old next
-all-pushed found s old now next so starts h = record {
-  spelled = pushed found s old now next so.spelled h.spelled;
-  passes = λ v n run. so.passes v n (machine-top now v n (h.passes [] ∙ run) starts);
-  shorter = omega (arith, so.shorter, h.shorter);
-}
-
-pub all-read : (found : List (Stmt ℕ)) (old now : List Lexeme) → AllSoFar found old now → length now ≤ 0 → g.body (statements_of found) old []
-all-read found old [] so none = read found old [] so.spelled
-all-read found old (t ∷ now) so none = absurd (omega arith)
-
-pub all-fails : (found : List (Stmt ℕ)) (old now : List Lexeme) (stop : Stop) → AllSoFar found old now → starts_statement (next_terminal now) ≡ true → Fails for_statement now stop → AllFails old stop
-all-fails found old now (Left n) so starts z = record { accepted = false; runs = so.passes false n (machine-top now false n (z []) starts); short = λ bad. absurd (let b : false ≡ true = bad in cc) }
-all-fails found old now NoMemory so starts z = tt
-
-pub all-stuck : (found : List (Stmt ℕ)) (old now : List Lexeme) → AllSoFar found old now → 0 < length now → starts_statement (next_terminal now) ≡ false → AllFails old (Left (length now))
-all-stuck found old [] so some free = absurd (omega arith)
-all-stuck found old (t ∷ now) so some free = record {
-  accepted = true;
-  runs = so.passes true (suc (length now)) (ap (λ o. go_on o (λ K'. machine K' now) (true, suc (length now))) (on_statement-other t.terminal [] None (not_started t.terminal free)));
-  short = λ b z. omega arith;
-}
-
--- ---- stmt.For the functions
+-- ---- for the functions
 
 pub place-default : (p : Root ℕ) (s : Selectors ℕ) (ts m : List Lexeme) → Parses (root p ⋆ selectors s) for_statement for_placed ts m → is_behind_place (next_terminal m) ≡ false → Fails for_statement ts (Left (length m))
 place-default p s ts m h free = place_next_fails p s ts m h (other x.Assign refl) (other x.Attempt refl) (other x.Open refl)

@@ -13,14 +13,17 @@ use Rattle.st_tree.specs.Expression as expr
 use Rattle.st_tree.specs.Expression.{Expression, Selectors, selector_then, Arguments}
 use Rattle.st_tree.specs.Statement as stmt
 use Rattle.st_tree.specs.Statement.{Statement, Statements, no_statements, statement_then, Branches, no_branches, branch_then, Cases, no_cases, case_then, Otherwise}
+use Rattle.st_tree.specs.Initial as init
+use Rattle.st_tree.specs.Initial.{Initial, Part, Parts, no_parts, part_then, FieldInits, no_fields, field_then}
+use Rattle.st_tree.specs.Grammar.{initial, first_part, more_parts, part, first_field, more_fields}
 use Rattle.st_tree.specs.Grammar as g
 use Rattle.st_tree.specs.Grammar.{Lexeme, Phrase, ◌⋆◌, sign, spelled, word, at, At, root, selectors, arguments, expression, literal, label_end, range_end, label, more_labels, step_by, statement, more_branches, otherwise, cases}
 use Rattle.st_parser_expr.specs.Private.Machine as e
 use Rattle.st_parser_expr.proofs.Spelled as p
 use Rattle.st_parser_expr.proofs.Fronts as f
 use Rattle.st_parser_expr.proofs.Fronts.{front, both_fronts}
-use Rattle.st_parser_stmt.specs.Numbers.{same_terminal}
-use Rattle.st_parser_stmt.specs.Machine.{Ender, branches_end, until, Quiet, IsNoStatement, Want, inside, need, word_next, place_state, body, statement_next, behind_place, by_or_do, branch_next, otherwise_next, first_case, case_body, case_word, case_dot, case_field, const_next, const_tail, behind_label, label_more, State, on_need, on_inside, on_statement, on_otherwise, on_branch, on_ender, on_placed, on_step, on_case_end, on_const, on_const_word, on_const_tail, on_label_more, on_behind_label, on_case_dot, on_case_body, on_place, advance, accepts, go_on, machine}
+use Rattle.st_parser_stmt.specs.Private.Numbers.{same_terminal}
+use Rattle.st_parser_stmt.specs.Private.Machine.{Ender, branches_end, until, Quiet, IsNoStatement, Want, inside, need, word_next, place_state, body, statement_next, behind_place, by_or_do, branch_next, otherwise_next, first_case, case_body, case_word, case_dot, case_field, const_next, const_tail, behind_label, label_more, init_next, init_open, init_word, fields_more, part_next, part_int, parts_more, behind_paren, behind_paren_word, behind_int, on_init, on_init_open, on_init_word, on_fields, on_part, on_part_int, on_parts, State, on_need, on_inside, on_statement, on_otherwise, on_branch, on_ender, on_placed, on_step, on_case_end, on_const, on_const_word, on_const_tail, on_label_more, on_behind_label, on_case_dot, on_case_body, on_place, advance, accepts, go_on, machine}
 use Rattle.st_parser_stmt.proofs.NumberLaws.{same-is}
 use Rattle.st_parser_stmt.proofs.Fronts.{move}
 
@@ -90,10 +93,16 @@ Gives const_next ts rest = (c : LabelEnd ℕ) × label_end c ts rest
 Gives const_tail ts rest = Tail ts rest
 Gives behind_label ts rest = Ranged ts rest
 Gives label_more ts rest = Labelled ts rest
+Gives init_next ts rest = (i : Initial ℕ) × initial i ts rest
+Gives init_open ts rest = ((fs : FieldInits ℕ) × ((first_field fs ⋆ sign x.Close) ts rest)) ⊎ Within behind_paren ts rest
+Gives init_word ts rest = ((i : Initial ℕ) × (fs : FieldInits ℕ) × ((sign x.Assign ⋆ initial i ⋆ more_fields fs ⋆ sign x.Close) ts rest)) ⊎ Within behind_paren_word ts rest
+Gives fields_more ts rest = (fs : FieldInits ℕ) × ((more_fields fs ⋆ sign x.Close) ts rest)
+Gives part_next ts rest = (p : Part ℕ) × part p ts rest
+Gives part_int ts rest = ((i : Initial ℕ) × ((sign x.Open ⋆ initial i ⋆ sign x.Close) ts rest)) ⊎ Within behind_int ts rest
+Gives parts_more ts rest = (ps : Parts ℕ) × ((more_parts ps ⋆ sign x.CloseBracket) ts rest)
 
--- nothing more is wanted: statements up to the end
 abbrev pub GivesAll : State → List Lexeme → Type 0
-GivesAll [] ts = (ss : Statements ℕ) × g.body ss ts []
+GivesAll [] ts = ts ≡ []
 GivesAll (w ∷ K) ts = (m : List Lexeme) × Gives w ts m × GivesAll K m
 
 -- ---- what the machine of expressions accepts
@@ -137,7 +146,7 @@ abbrev Accepted : e.Ending → Type 0
 Accepted v = v ≡ (true, 0)
 
 at_end : (K : State) → accepts K ≡ true → GivesAll K []
-at_end [] h = (no_statements, refl)
+at_end [] h = refl
 at_end (inside k ∷ K) h = both (λ h'. at_end K h') (e.accepts k) refl h
   where
     both : (accepts K ≡ true → GivesAll K []) → (b : Bool) → e.accepts k ≡ b → b && accepts K ≡ true → GivesAll (inside k ∷ K) []
@@ -159,6 +168,13 @@ at_end (const_next ∷ K) h = cc
 at_end (const_tail ∷ K) h = ([], inl refl, at_end K h)
 at_end (behind_label ∷ K) h = cc
 at_end (label_more ∷ K) h = cc
+at_end (init_next ∷ K) h = cc
+at_end (init_open ∷ K) h = cc
+at_end (init_word ∷ K) h = cc
+at_end (fields_more ∷ K) h = cc
+at_end (part_next ∷ K) h = cc
+at_end (part_int ∷ K) h = ([], inr ([], refl, refl), at_end K h)
+at_end (parts_more ∷ K) h = cc
 
 not_here : {A : Type 0} (b : Bool) (n : ℕ) → Accepted (b, suc n) → A
 not_here b n h = absurd (let z : suc n ≡ 0 = ap (λ p. p.1) h in omega arith)
@@ -336,12 +352,6 @@ module _ (text : List ℕ) (line : ℕ) (marks : Marks) (ts : List Lexeme) (late
       more : One u (body b ∷ K) → GivesAll (body b ∷ K) (one u ∷ ts)
       more (m, (s, hs), (m2, (ss, (m3, hss, c)), rest)) = (m2, (statement_then s ss, (m3, (m, hs, hss), c)), rest)
 
-  on-top : (u : Terminal) → Goes (on_statement u [] None) true → GivesAll [] (one u ∷ ts)
-  on-top u h = on-statement u [] None true more (not_here true (length ts)) h
-    where
-      more : One u [] → GivesAll [] (one u ∷ ts)
-      more (m, (s, hs), (ss, hss)) = (statement_then s ss, (m, hs, hss))
-
   -- ---- labels
 
   on-label_more : (u : Terminal) (K : State) (other : Option State) {A : Type 0} → (GivesAll (label_more ∷ K) (one u ∷ ts) → A) → (Goes other false → A) → Goes (on_label_more u K other) false → A
@@ -441,8 +451,81 @@ module _ (text : List ℕ) (line : ℕ) (marks : Marks) (ts : List Lexeme) (late
   on-case_word u K h =
       on-behind_label u K (on_place u (case_body ∷ K)) (λ n. (n.0, inl (one u ∷ ts, inl refl, n.1), n.2)) (λ h'. let n = on-place u K h' in (n.0, inr n.1, n.2)) h
 
+  -- ---- initial values
+
+  valued-init : (u : Terminal) (K : State) → GivesAll (inside e.start ∷ K) (one u ∷ ts) → GivesAll (init_next ∷ K) (one u ∷ ts)
+  valued-init u K (m, hv, more) = let v = given_expression (one u ∷ ts) m hv in (m, (init.Value v.0, v.1), more)
+
+  on-init : (u : Terminal) (K : State) → Goes (on_init u K) false → GivesAll (init_next ∷ K) (one u ∷ ts)
+  on-init x.OpenBracket K h = at (later (part_next ∷ parts_more ∷ K) h)
+    where
+      at : GivesAll (part_next ∷ parts_more ∷ K) ts → GivesAll (init_next ∷ K) (one x.OpenBracket ∷ ts)
+      at (m, (p, hp), (m2, (ps, (m3, hm, c)), more)) = (m2, (init.Array line (part_then p ps), (refl, (ts, sign_one x.OpenBracket x.OpenBracket refl, (m3, (m, hp, hm), c)))), more)
+  on-init x.Open K h = at (later (init_open ∷ K) h)
+    where
+      at : GivesAll (init_open ∷ K) ts → GivesAll (init_next ∷ K) (one x.Open ∷ ts)
+      at (m, (inl (fs, (m2, hf, c))), more) = (m, (init.Fields line fs, (refl, (ts, sign_one x.Open x.Open refl, (m2, hf, c)))), more)
+      at (m, (inr (a, w, run)), more) = valued-init x.Open K (m, (one x.Open ∷ a, ap (λ v. one x.Open ∷ v) w, run), more)
+  on-init u K h = valued-init u K (on-inside u e.start K None false (e.advance e.start u) false refl refl (not_here false (length ts)) h)
+
+  on-init_open : (u : Terminal) (K : State) → Goes (on_init_open u K) false → GivesAll (init_open ∷ K) (one u ∷ ts)
+  on-init_open x.Word K h = at (later (init_word ∷ K) h)
+    where
+      at : GivesAll (init_word ∷ K) ts → GivesAll (init_open ∷ K) (one x.Word ∷ ts)
+      at (m, (inl (i, fs, (m2, w, (m3, hi, (m4, hf, c))))), more) = (m, inl (field_then line text i fs, (m4, (ts, (refl, (one x.Word, (refl, refl), refl)), (m2, w, (m3, hi, hf))), c)), more)
+      at (m, (inr (a, w, run)), more) = (m, inr (one x.Word ∷ a, ap (λ v. one x.Word ∷ v) w, run), more)
+  on-init_open u K h =
+      let n = on-inside u behind_paren K None false (e.advance behind_paren u) false refl refl (not_here false (length ts)) h in
+      (n.0, inr n.1, n.2)
+
+  on-init_word : (u : Terminal) (K : State) → Goes (on_init_word u K) false → GivesAll (init_word ∷ K) (one u ∷ ts)
+  on-init_word x.Assign K h = at (later (init_next ∷ fields_more ∷ K) h)
+    where
+      at : GivesAll (init_next ∷ fields_more ∷ K) ts → GivesAll (init_word ∷ K) (one x.Assign ∷ ts)
+      at (m, (i, hi), (m2, (fs, (m3, hf, c)), more)) = (m2, inl (i, fs, (ts, sign_one x.Assign x.Assign refl, (m, hi, (m3, hf, c)))), more)
+  on-init_word u K h =
+      let n = on-inside u behind_paren_word K None false (e.advance behind_paren_word u) false refl refl (not_here false (length ts)) h in
+      (n.0, inr n.1, n.2)
+
+  on-fields : (u : Terminal) (K : State) → Goes (on_fields u K) false → GivesAll (fields_more ∷ K) (one u ∷ ts)
+  on-fields x.Comma K h = at (later (word_next ∷ need x.Assign (refl, tt) ∷ init_next ∷ fields_more ∷ K) h)
+    where
+      at : GivesAll (word_next ∷ need x.Assign (refl, tt) ∷ init_next ∷ fields_more ∷ K) ts → GivesAll (fields_more ∷ K) (one x.Comma ∷ ts)
+      at (m, hn, (m2, w, (m3, (i, hi), (m4, (fs, (m5, hf, c)), more)))) =
+          let n = named ts m hn in
+          (m4, (field_then n.1 n.0 i fs, (m5, (ts, sign_one x.Comma x.Comma refl, (m, n.2, (m2, w, (m3, hi, hf)))), c)), more)
+  on-fields x.Close K h = (ts, (no_fields, (one x.Close ∷ ts, refl, sign_one x.Close x.Close refl)), later K h)
+  on-fields _ K h = not_here false (length ts) h
+
+  on-part : (u : Terminal) (K : State) → Goes (on_part u K) false → GivesAll (part_next ∷ K) (one u ∷ ts)
+  on-part x.Int K h = at (later (part_int ∷ K) h)
+    where
+      at : GivesAll (part_int ∷ K) ts → GivesAll (part_next ∷ K) (one x.Int ∷ ts)
+      at (m, (inl (i, more)), rest) = (m, (init.Repeated line text i, (refl, (ts, (one x.Int, (refl, refl), refl), more))), rest)
+      at (m, (inr (a, w, run)), rest) =
+          let v = given_expression (one x.Int ∷ ts) m (one x.Int ∷ a, ap (λ z. one x.Int ∷ z) w, run) in
+          (m, (init.One (init.Value v.0), v.1), rest)
+  on-part u K h = let n = on-init u K h in (n.0, (init.One n.1.0, n.1.1), n.2)
+
+  on-part_int : (u : Terminal) (K : State) → (Goes (advance K u) (accepts K) → GivesAll K (one u ∷ ts)) → Goes (on_part_int u K (advance K u)) (accepts K) → GivesAll (part_int ∷ K) (one u ∷ ts)
+  on-part_int x.Open K go h = at (later (init_next ∷ need x.Close (refl, tt) ∷ K) h)
+    where
+      at : GivesAll (init_next ∷ need x.Close (refl, tt) ∷ K) ts → GivesAll (part_int ∷ K) (one x.Open ∷ ts)
+      at (m, (i, hi), (m2, c, rest)) = (m2, inl (i, (ts, sign_one x.Open x.Open refl, (m, hi, c))), rest)
+  on-part_int u K go h =
+      let n = on-inside u behind_int K (advance K u) (accepts K) (e.advance behind_int u) true refl refl go h in
+      (n.0, inr n.1, n.2)
+
+  on-parts : (u : Terminal) (K : State) → Goes (on_parts u K) false → GivesAll (parts_more ∷ K) (one u ∷ ts)
+  on-parts x.Comma K h = at (later (part_next ∷ parts_more ∷ K) h)
+    where
+      at : GivesAll (part_next ∷ parts_more ∷ K) ts → GivesAll (parts_more ∷ K) (one x.Comma ∷ ts)
+      at (m, (p, hp), (m2, (ps, (m3, hm, c)), more)) = (m2, (part_then p ps, (m3, (ts, sign_one x.Comma x.Comma refl, (m, hp, hm)), c)), more)
+  on-parts x.CloseBracket K h = (ts, (no_parts, (one x.CloseBracket ∷ ts, refl, sign_one x.CloseBracket x.CloseBracket refl)), later K h)
+  on-parts _ K h = not_here false (length ts) h
+
   on-token : (u : Terminal) (K : State) → Goes (advance K u) (accepts K) → GivesAll K (one u ∷ ts)
-  on-token u [] h = on-top u h
+  on-token u [] h = not_here true (length ts) h
   on-token u (inside k ∷ K) h = on-inside u k K (advance K u) (accepts K) (e.advance k u) (e.accepts k) refl refl (on-token u K) h
   on-token u (need s q ∷ K) h = on-need s u q K h
   on-token u (body b ∷ K) h = on-body b u K h
@@ -460,10 +543,14 @@ module _ (text : List ℕ) (line : ℕ) (marks : Marks) (ts : List Lexeme) (late
   on-token u (const_tail ∷ K) h = on-const_tail u K (advance K u) (accepts K) (on-token u K) h
   on-token u (behind_label ∷ K) h = on-behind_label u K None (λ n. n) (not_here false (length ts)) h
   on-token u (label_more ∷ K) h = on-label_more u K None (λ n. n) (not_here false (length ts)) h
+  on-token u (init_next ∷ K) h = on-init u K h
+  on-token u (init_open ∷ K) h = on-init_open u K h
+  on-token u (init_word ∷ K) h = on-init_word u K h
+  on-token u (fields_more ∷ K) h = on-fields u K h
+  on-token u (part_next ∷ K) h = on-part u K h
+  on-token u (part_int ∷ K) h = on-part_int u K (on-token u K) h
+  on-token u (parts_more ∷ K) h = on-parts u K h
 
 pub spelled_all : (ts : List Lexeme) (K : State) → Accepted (machine K ts) → GivesAll K ts
 spelled_all [] K h = at_end K (ap (λ p. p.0) h)
 spelled_all (t ∷ ts) K h = on-token t.text t.line t.marks ts (spelled_all ts) t.terminal K h
-
-pub derived : (ts : List Lexeme) → machine [] ts ≡ (true, 0) → (ss : Statements ℕ) × g.body ss ts []
-derived ts h = spelled_all ts [] h

@@ -18,28 +18,28 @@ use Rattle.st_parser_expr.specs.Private.Promises.{next_terminal}
 use Rattle.st_parser_expr.proofs.MachineLaws.{signed}
 use Rattle.st_parser_expr.proofs.Unique as u
 use Rattle.st_parser_expr.proofs.Unique.{selector-sign}
-use Rattle.st_parser_stmt.specs.Promises.{starts_statement, ends_const, label_at}
+use Rattle.st_parser_stmt.specs.Private.Promises.{starts_statement, ends_const, label_at}
 use Rattle.st_parser_stmt.proofs.Passes.{Closed, closed-sign, next-sign, step-closed, statement-starts, statement-no_label, labels-label, more-ends, range-ends, else-no_statement, else-no_label, else-no_elsif}
 
 -- ---- parts, at equal lexemes
 
-sign-same : (s : Terminal) (ts ts' r r' : List Lexeme) → ts ≡ ts' → sign s ts r → sign s ts' r' → r ≡ r'
+pub sign-same : (s : Terminal) (ts ts' r r' : List Lexeme) → ts ≡ ts' → sign s ts r → sign s ts' r' → r ≡ r'
 sign-same s ts ts' r r' q h h' = u.sign-rest s s ts r r' h (subst (λ v. sign s v r') (sym q) h')
 
-sign-two : (s s' : Terminal) (ts ts' r r' : List Lexeme) → ts ≡ ts' → sign s ts r → sign s' ts' r' → s ≡ s'
+pub sign-two : (s s' : Terminal) (ts ts' r r' : List Lexeme) → ts ≡ ts' → sign s ts r → sign s' ts' r' → s ≡ s'
 sign-two s s' ts ts' r r' q h h' = u.sign-mismatch s s' ts r r' h (subst (λ v. sign s' v r') (sym q) h')
 
-spelled-same : (s : Terminal) (n n' : List ℕ) (ts ts' r r' : List Lexeme) → ts ≡ ts' → spelled s n ts r → spelled s n' ts' r' → (n ≡ n') × (r ≡ r')
+pub spelled-same : (s : Terminal) (n n' : List ℕ) (ts ts' r r' : List Lexeme) → ts ≡ ts' → spelled s n ts r → spelled s n' ts' r' → (n ≡ n') × (r ≡ r')
 spelled-same s n n' ts ts' r r' q h h' = u.spelled-same s n n' ts r r' h (subst (λ v. spelled s n' v r') (sym q) h')
 
-line-same : (l l' : ℕ) (ts ts' : List Lexeme) → ts ≡ ts' → At l ts → At l' ts' → l ≡ l'
+pub line-same : (l l' : ℕ) (ts ts' : List Lexeme) → ts ≡ ts' → At l ts → At l' ts' → l ≡ l'
 line-same l l' ts ts' q a a' = u.line-same l l' ts a (subst (At l') (sym q) a')
 
 looser : (r : List Lexeme) → NoOperator r → Looser 0 r
 looser [] h = tt
 looser (t ∷ ts) h = λ p is. absurd (let bad : None ≡ Some p = sym h ∙ is in cc)
 
-expression-same : (v v' : Expression ℕ) (ts ts' r r' : List Lexeme) → ts ≡ ts' → expression v 0 ts r → expression v' 0 ts' r' → Closed r → Closed r' → (v ≡ v') × (r ≡ r')
+pub expression-same : (v v' : Expression ℕ) (ts ts' r r' : List Lexeme) → ts ≡ ts' → expression v 0 ts r → expression v' 0 ts' r' → Closed r → Closed r' → (v ≡ v') × (r ≡ r')
 expression-same v v' ts ts' r r' q h h' c c' =
     u.one-expression v 0 v' ts r r' h (subst (λ w. expression v' 0 w r') (sym q) h') (looser r c.1, c.0) (looser r' c'.1, c'.0)
 

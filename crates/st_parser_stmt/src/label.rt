@@ -5,8 +5,8 @@ ghost use Rattle.st_tree.specs.declared.terminal.Terminal.TheVariants as x;
 ghost use Rattle.st_tree.specs.Grammar as g;
 ghost use Rattle.st_tree.specs.Grammar.{◌⋆◌};
 ghost use Rattle.st_parser_expr.specs.Private.Promises as e;
-ghost use Rattle.st_parser_stmt.specs.Promises as m;
-ghost use Rattle.st_parser_stmt.specs.Promises.{Parses, Fails, same};
+ghost use Rattle.st_parser_stmt.specs.Private.Promises as m;
+ghost use Rattle.st_parser_stmt.specs.Private.Promises.{Parses, Fails, same};
 
 use crate::leaf::{eat, is_next, literal, sign, word};
 use plc_text::Items;

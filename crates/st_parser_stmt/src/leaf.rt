@@ -6,8 +6,8 @@ ghost use Rattle.st_tree.specs.Grammar.{◌⋆◌};
 ghost use Rattle.st_tree.specs.declared.terminal.Terminal.TheVariants as x;
 ghost use Rattle.st_tree.specs.Expression.{expression_of, arguments_of, place_of};
 ghost use Rattle.st_parser_expr.specs.Private.Promises as e;
-ghost use Rattle.st_parser_stmt.specs.Promises as m;
-ghost use Rattle.st_parser_stmt.specs.Promises.{Parses, Fails, same};
+ghost use Rattle.st_parser_stmt.specs.Private.Promises as m;
+ghost use Rattle.st_parser_stmt.specs.Private.Promises.{Parses, Fails, same};
 
 use crate::number::is_same;
 use plc_text::{Items, Text};

@@ -1,14 +1,14 @@
-//! Parses statements (IEC 61131-3:2013, 7.3.3).
+//! Parses statements and initial values (IEC 61131-3:2013, 7.3.3 and 6.4.4), for the parser of declarations.
 #![tactic(auto)]
 
+mod initial;
 mod label;
 mod law;
 mod leaf;
 mod number;
-mod parse;
 mod statement;
-#[cfg(test)]
-mod tests;
 
+pub use initial::initial_value;
 pub use law::one_reading;
-pub use parse::parse_statements;
+pub use leaf::{eat, expression, is_next, sign, word};
+pub use statement::body_until;

@@ -1,7 +1,7 @@
 //! Which terminal it is, as a number.
 
 ghost use Rattle.std.specs.Prelude.{◌≡◌};
-ghost use Rattle.st_parser_stmt.specs.Numbers as n;
+ghost use Rattle.st_parser_stmt.specs.Private.Numbers as n;
 
 use st_tree::Terminal;
 use st_types::Elem;
@@ -27,7 +27,7 @@ fn number_of_kind(kind: Elem) -> u8
     }
 }
 
-#[tactic(auto, unfolding(crate::specs::Numbers::number))]
+#[tactic(auto, unfolding(crate::specs::Private::Numbers::number))]
 fn number(terminal: Terminal) -> u8
     ensures { result ≡ n.number terminal }
 {
@@ -146,7 +146,7 @@ fn number(terminal: Terminal) -> u8
     }
 }
 
-#[tactic(auto, unfolding(crate::specs::Numbers::same_terminal))]
+#[tactic(auto, unfolding(crate::specs::Private::Numbers::same_terminal))]
 pub fn is_same(left: Terminal, right: Terminal) -> bool
     ensures { result ≡ n.same_terminal left right }
 {

@@ -8,8 +8,8 @@ ghost use Rattle.st_tree.specs.Grammar.{◌⋆◌};
 ghost use Rattle.st_tree.specs.Expression.{expression_of};
 ghost use Rattle.st_tree.specs.Statement.{statement_of, statements_of, branches_of, cases_of, otherwise_of};
 ghost use Rattle.st_parser_expr.specs.Private.Promises as e;
-ghost use Rattle.st_parser_stmt.specs.Promises as m;
-ghost use Rattle.st_parser_stmt.specs.Promises.{Parses, Fails, same};
+ghost use Rattle.st_parser_stmt.specs.Private.Promises as m;
+ghost use Rattle.st_parser_stmt.specs.Private.Promises.{Parses, Fails, same};
 
 use crate::label::{is_const, is_label, labels};
 use crate::leaf::{
@@ -315,7 +315,7 @@ fn body(alloc: Global, tokens: &mut Cursor<'_, '_>) -> Result<Items<Stmt<u32>>, 
 
 /// Statements, and this terminal.
 #[cycle(statement)]
-fn body_until(
+pub fn body_until(
     alloc: Global,
     tokens: &mut Cursor<'_, '_>,
     end: Terminal,
@@ -325,21 +325,5 @@ fn body_until(
 {
     let found = body(alloc, tokens)?;
     sign(tokens, end)?;
-    Ok(found)
-}
-
-/// Statements up to the end of the tokens.
-pub fn all(alloc: Global, tokens: &mut Cursor<'_, '_>) -> Result<Items<Stmt<u32>>, Stop>
-    ensures ok { IfOk result (λ ss. g.body (statements_of ss) tokens.old []) }
-    ensures err { IfErr result (m.AllFails tokens.old) }
-{
-    let mut found = Items::new(alloc);
-    while tokens.left() > 0 {
-        if is_statement(tokens) {} else {
-            return Err(Stop::Left(tokens.left()));
-        }
-        let one = statement(alloc, tokens)?;
-        found.push(one)?;
-    }
     Ok(found)
 }

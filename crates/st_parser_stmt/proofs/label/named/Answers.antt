@@ -1,4 +1,4 @@
-use Rattle.st_parser_stmt.specs.Promises.{for_const, for_word}
+use Rattle.st_parser_stmt.specs.Private.Promises.{for_const, for_word}
 use Rattle.std.proofs.lemmas.Result.{err_from_is_err_and}
 use Rattle.std.proofs.Common.{refl}
 use Rattle.st_parser_stmt.proofs.Rules as r

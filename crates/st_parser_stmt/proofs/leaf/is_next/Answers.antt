@@ -1,5 +1,5 @@
 use Rattle.std.proofs.Common.{◌≡◌, ◌∙◌, sym, true, false, ap}
-use Rattle.st_parser_stmt.specs.Numbers.{same_terminal}
+use Rattle.st_parser_stmt.specs.Private.Numbers.{same_terminal}
 use Rattle.st_parser_stmt.proofs.NumberLaws.{same-is, same-self}
 use Rattle.st_parser_stmt.proofs.leaf.is_next.Goals as goal
 

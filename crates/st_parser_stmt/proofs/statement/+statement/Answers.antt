@@ -2,7 +2,7 @@ use Rattle.std.proofs.Common.{◌≡◌, ◌∙◌, true, false, refl, sym, arit
 use Rattle.std.proofs.lemmas.Result.{err_from_is_err_and}
 use Rattle.st_tree.specs.declared.terminal.Terminal.TheVariants as x
 use Rattle.st_tree.specs.Statement as view
-use Rattle.st_parser_stmt.specs.Machine.{branches_end}
+use Rattle.st_parser_stmt.specs.Private.Machine.{branches_end}
 use Rattle.st_parser_stmt.proofs.Rules as r
 use Rattle.st_parser_stmt.proofs.statement.+statement.Goals as goal
 

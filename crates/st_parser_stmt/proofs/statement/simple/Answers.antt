@@ -3,7 +3,7 @@ use Rattle.std.proofs.lemmas.Result.{err_from_is_err_and}
 use Rattle.st_tree.specs.declared.terminal.Terminal.TheVariants as x
 use Rattle.st_tree.specs.Statement as view
 use Rattle.st_parser_expr.specs.Private.Promises.{next_terminal}
-use Rattle.st_parser_stmt.specs.Promises.{is_behind_place}
+use Rattle.st_parser_stmt.specs.Private.Promises.{is_behind_place}
 use Rattle.st_parser_stmt.proofs.Rules as r
 use Rattle.st_parser_stmt.proofs.statement.simple.Goals as goal
 

@@ -1,12 +1,12 @@
--- What may follow among statements: a stack of what is still wanted, from the top. What an expression, a place or arguments want
--- is one want that holds their own stack, and gives way where that wants nothing more.
+-- What may follow in statements and initial values: a stack of what is still wanted, from the top. What an expression, a place or
+-- arguments want is one want that holds their own stack, and gives way where that wants nothing more.
 use Rattle.std.specs.Prelude.{◌≡◌, suc, Bool, true, false, ◌&&◌, List, [], ◌∷◌, Option, Some, None, length, refl}
 use Rattle.st_tree.specs.declared.terminal.Terminal.{Terminal}
 use Rattle.st_tree.specs.declared.terminal.Terminal.TheVariants as x
 use Rattle.st_tree.specs.Grammar.{Lexeme, operator_of}
 use Rattle.st_parser_expr.specs.Private.Machine as e
 use Rattle.st_parser_expr.specs.Private.Machine.{IsNoSelector, Ending}
-use Rattle.st_parser_stmt.specs.Numbers.{same_terminal}
+use Rattle.st_parser_stmt.specs.Private.Numbers.{same_terminal}
 
 -- a terminal with which an expression does not go on
 abbrev pub Quiet : Terminal → Type 0
@@ -64,6 +64,15 @@ pub data Want : Type 0 where
   -- `..`, a comma or a colon
   behind_label : Want
   label_more : Want
+  -- an initial value; behind `(`, and behind `(` and a name, where one may begin
+  init_next : Want
+  init_open : Want
+  init_word : Want
+  fields_more : Want
+  -- a part of a list; behind an int that may count one
+  part_next : Want
+  part_int : Want
+  parts_more : Want
 
 abbrev pub State : Type 0
 State = List Want
@@ -168,9 +177,50 @@ on_case_body t K = on_statement t (case_body ∷ K) (on_const t (behind_label �
 abbrev pub on_place : Terminal → State → Option State
 on_place t K = on_inside (e.advance place_state t) true (behind_place ∷ K) (on_placed t K)
 
--- What is wanted after one token, or none where it may not come. Where nothing more is wanted a statement may begin.
+-- what the machine of expressions wants behind these
+abbrev pub behind_paren : e.State
+behind_paren = e.operand ∷ e.more_tails ∷ e.close_next ∷ e.more_tails ∷ []
+
+abbrev pub behind_paren_word : e.State
+behind_paren_word = e.behind_name ∷ e.more_tails ∷ e.close_next ∷ e.more_tails ∷ []
+
+abbrev pub behind_int : e.State
+behind_int = e.more_tails ∷ []
+
+abbrev pub on_init : Terminal → State → Option State
+on_init x.OpenBracket K = Some (part_next ∷ parts_more ∷ K)
+on_init x.Open K = Some (init_open ∷ K)
+on_init t K = on_inside (e.advance e.start t) false K None
+
+abbrev pub on_init_open : Terminal → State → Option State
+on_init_open x.Word K = Some (init_word ∷ K)
+on_init_open t K = on_inside (e.advance behind_paren t) false K None
+
+abbrev pub on_init_word : Terminal → State → Option State
+on_init_word x.Assign K = Some (init_next ∷ fields_more ∷ K)
+on_init_word t K = on_inside (e.advance behind_paren_word t) false K None
+
+abbrev pub on_fields : Terminal → State → Option State
+on_fields x.Comma K = Some (word_next ∷ need x.Assign (refl, tt) ∷ init_next ∷ fields_more ∷ K)
+on_fields x.Close K = Some K
+on_fields _ K = None
+
+abbrev pub on_part : Terminal → State → Option State
+on_part x.Int K = Some (part_int ∷ K)
+on_part t K = on_init t K
+
+abbrev pub on_part_int : Terminal → State → Option State → Option State
+on_part_int x.Open K other = Some (init_next ∷ need x.Close (refl, tt) ∷ K)
+on_part_int t K other = on_inside (e.advance behind_int t) true K other
+
+abbrev pub on_parts : Terminal → State → Option State
+on_parts x.Comma K = Some (part_next ∷ parts_more ∷ K)
+on_parts x.CloseBracket K = Some K
+on_parts _ K = None
+
+-- what is wanted after one token, or none where it may not come
 abbrev pub advance : State → Terminal → Option State
-advance [] t = on_statement t [] None
+advance [] t = None
 advance (inside k ∷ K) t = on_inside (e.advance k t) (e.accepts k) K (advance K t)
 advance (need s q ∷ K) t = on_need (same_terminal s t) K
 advance (body e ∷ K) t = on_statement t (body e ∷ K) (on_ender e t K)
@@ -188,6 +238,13 @@ advance (const_next ∷ K) t = on_const t K (on_const_word t K None)
 advance (const_tail ∷ K) t = on_const_tail t K (advance K t)
 advance (behind_label ∷ K) t = on_behind_label t K None
 advance (label_more ∷ K) t = on_label_more t K None
+advance (init_next ∷ K) t = on_init t K
+advance (init_open ∷ K) t = on_init_open t K
+advance (init_word ∷ K) t = on_init_word t K
+advance (fields_more ∷ K) t = on_fields t K
+advance (part_next ∷ K) t = on_part t K
+advance (part_int ∷ K) t = on_part_int t K (advance K t)
+advance (parts_more ∷ K) t = on_parts t K
 
 -- nothing more is wanted
 abbrev pub accepts : State → Bool
@@ -209,6 +266,13 @@ accepts (const_next ∷ K) = false
 accepts (const_tail ∷ K) = accepts K
 accepts (behind_label ∷ K) = false
 accepts (label_more ∷ K) = false
+accepts (init_next ∷ K) = false
+accepts (init_open ∷ K) = false
+accepts (init_word ∷ K) = false
+accepts (fields_more ∷ K) = false
+accepts (part_next ∷ K) = false
+accepts (part_int ∷ K) = accepts K
+accepts (parts_more ∷ K) = false
 
 abbrev pub go_on : Option State → (State → Ending) → Ending → Ending
 go_on None f ending = ending

@@ -1,4 +1,4 @@
--- What the functions over statements promise.
+-- What the functions over statements and initial values promise.
 use Rattle.std.specs.Prelude.{◌≡◌, ℕ, ◌≤◌, Bool, true, false, ◌&&◌, List, [], ◌∷◌, Option, Some, length, drop, refl}
 use Rattle.st_tree.specs.declared.terminal.Terminal.{Terminal}
 use Rattle.st_tree.specs.declared.terminal.Terminal.TheVariants as x
@@ -6,12 +6,13 @@ use Rattle.std.specs.Option.{option_map}
 use Rattle.st_tree.specs.Grammar as g
 use Rattle.st_tree.specs.Grammar.{Lexeme, Phrase, ◌⋆◌}
 use Rattle.st_tree.specs.Expression.{expression_of}
+use Rattle.st_tree.specs.Initial.{Initial}
 use Rattle.st_parser_stmt.specs.declared.statement.Control.{Control}
 use Rattle.st_parser_expr.specs.declared.stop.Stop.{Stop}
 use Rattle.st_parser_expr.specs.declared.stop.Stop.TheVariants.{Left, NoMemory}
 use Rattle.st_parser_expr.specs.Private.Machine as e
 use Rattle.st_parser_expr.specs.Private.Promises.{next_terminal}
-use Rattle.st_parser_stmt.specs.Machine.{Ender, branches_end, until, Quiet, IsNoStatement, State, inside, need, word_next, body, statement_next, behind_place, by_or_do, branch_next, otherwise_next, first_case, case_body, const_next, behind_label, label_more, machine}
+use Rattle.st_parser_stmt.specs.Private.Machine.{Ender, branches_end, until, Quiet, IsNoStatement, State, inside, need, word_next, body, statement_next, behind_place, by_or_do, branch_next, otherwise_next, first_case, case_body, const_next, behind_label, label_more, init_next, fields_more, part_next, parts_more, machine}
 
 -- ---- how lexemes begin
 
@@ -202,16 +203,50 @@ abbrev pub Controlled : Control → Phrase
 Controlled c =
     g.at c.note (g.word c.name) ⋆ g.sign x.Assign ⋆ g.expression (expression_of c.from) 0 ⋆ g.sign x.To ⋆ g.expression (expression_of c.to) 0 ⋆ g.step_by (option_map expression_of c.by) ⋆ g.sign x.Do
 
--- the machine stops, and not with all lexemes taken and nothing more wanted
-pub record Stuck (ts : List Lexeme) (n : ℕ) : Type 0 where
-  pub accepted : Bool
-  pub runs : machine [] ts ≡ (accepted, n)
-  pub short : accepted ≡ true → n ≡ 0 → ⊥
+-- ---- initial values
 
-abbrev pub AllFails : List Lexeme → Stop → Type 0
-AllFails ts (Left n) = Stuck ts n
-AllFails ts NoMemory = Unit {0}
+abbrev pub is_assign : Option Terminal → Bool
+is_assign (Some x.Assign) = true
+is_assign _ = false
 
-abbrev pub IsWithin : ℕ → Stop → Type 0
-IsWithin all (Left n) = n ≤ all
-IsWithin all NoMemory = Unit {0}
+abbrev pub fields_by : Option Terminal → Option Terminal → Option Terminal → Bool
+fields_by (Some x.Open) b c = is_word b && is_assign c
+fields_by _ b c = false
+
+-- whether a list of fields comes next: `(`, a name and `:=`
+abbrev pub fields_at : List Lexeme → Bool
+fields_at ts = fields_by (next_terminal ts) (next_terminal (drop 1 ts)) (next_terminal (drop 2 ts))
+
+abbrev pub is_open : Option Terminal → Bool
+is_open (Some x.Open) = true
+is_open _ = false
+
+abbrev pub repetition_by : Option Terminal → Option Terminal → Bool
+repetition_by (Some x.Int) b = is_open b
+repetition_by _ b = false
+
+-- whether a repetition comes next: an int and `(`
+abbrev pub repetition_at : List Lexeme → Bool
+repetition_at ts = repetition_by (next_terminal ts) (next_terminal (drop 1 ts))
+
+abbrev pub for_initial : State → State
+for_initial K = init_next ∷ K
+
+abbrev pub for_field : State → State
+for_field K = word_next ∷ need x.Assign (refl, tt) ∷ init_next ∷ fields_more ∷ K
+
+abbrev pub for_more_fields : State → State
+for_more_fields K = fields_more ∷ K
+
+abbrev pub for_part : State → State
+for_part K = part_next ∷ K
+
+abbrev pub for_parts : State → State
+for_parts K = part_next ∷ parts_more ∷ K
+
+abbrev pub for_more_parts : State → State
+for_more_parts K = parts_more ∷ K
+
+-- name ":=" init
+abbrev pub Fielded : ℕ → List ℕ → Initial ℕ → Phrase
+Fielded line n i = g.at line (g.word n) ⋆ g.sign x.Assign ⋆ g.initial i

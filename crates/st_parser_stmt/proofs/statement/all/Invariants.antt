@@ -1,9 +1,0 @@
-use Rattle.std.proofs.Common.{length}
-use Rattle.st_parser_stmt.proofs.Rules.{AllSoFar}
-use Rattle.st_parser_stmt.proofs.statement.all.Given as goal
-
-abbrev pub invariant-loop-alloc : goal.invariant-loop-alloc
-invariant-loop-alloc l = AllSoFar l.found l.fn.tokens l.tokens
-
-abbrev pub decreases-loop-alloc : goal.decreases-loop-alloc
-decreases-loop-alloc l = length l.tokens
