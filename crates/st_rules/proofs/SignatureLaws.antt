@@ -1,6 +1,7 @@
 -- Signatures of which all can be told are equal exactly where the test of equal signatures passes.
-use Rattle.std.proofs.Common.{◌≡◌, suc, Bool, true, false, List, [], ◌∷◌, Option, Some, None, refl, sym, ap, subst, length}
-use Rattle.std.specs.Prelude.{◌&&◌, ◌↔◌, IsTrue, IsSome}
+use Rattle.std.proofs.Common.{◌≡◌, suc, Bool, true, false, List, [], ◌∷◌, Option, Some, None, refl, sym, ap, ◌∙◌, subst, length, get_or, arith}
+use Rattle.std.proofs.lemmas.Bool.Decides.{nat_tests}
+use Rattle.std.specs.Prelude.{◌==◌, ◌&&◌, ◌↔◌, IsTrue, IsSome}
 use Rattle.std.specs.Bool.{Decides}
 use Rattle.std.specs.Cmp.Lexicographic.{bytes_decides}
 use Rattle.plc_text.specs.Words.{same}
@@ -113,3 +114,28 @@ module _ {V : Type 0} (same_value : V → V → Bool) (values_decided : (a b : V
             let p = results.0 parts.0 in let q = parameters.0 parts.1 in λ i. record { result = p i; parameters = q i },
         λ e. and-both _ _ (results.1 (ap (λ (s : Signature V). s.result) e)) (parameters.1 (ap (λ (s : Signature V). s.parameters) e)),
       )
+
+module _ {V : Type 0} (same_value : V → V → Bool) where
+  pub two_parameters : (ps : List (Parameter V)) (p q a b : Parameter V) → length ps ≡ 2 → p ≡ get_or ps 0 p → q ≡ get_or ps 1 q →
+      same_parameters same_value ps (a ∷ b ∷ []) ≡ (same_parameter same_value p a && same_parameter same_value q b)
+  two_parameters [] p q a b l e f = absurd (omega arith)
+  two_parameters (x ∷ []) p q a b l e f = absurd (omega arith)
+  two_parameters (x ∷ y ∷ []) p q a b l e f = ends (same_parameter same_value x a) (same_parameter same_value y b) ∙ ap (λ z. same_parameter same_value z a && same_parameter same_value y b) (sym e) ∙ ap (λ z. same_parameter same_value p a && same_parameter same_value z b) (sym f)
+    where
+      ends : (s t : Bool) → (s && (t && true)) ≡ (s && t)
+      ends false t = refl
+      ends true false = refl
+      ends true true = refl
+  two_parameters (x ∷ y ∷ z ∷ rest) p q a b l e f = absurd (omega arith)
+
+  pub no_parameters : (r : Bool) (ps : List (Parameter V)) → r ≡ (length ps == 0) → r ≡ same_parameters same_value ps []
+  no_parameters r [] e = e
+  no_parameters r (p ∷ ps) e = let z : suc (length ps) == 0 ≡ false = grind (arith, nat_tests) in e ∙ z
+
+  pub two_then : (ps : List (Parameter V)) (p q a b : Parameter V) (r s : Bool) → length ps ≡ 2 → p ≡ get_or ps 0 p → q ≡ get_or ps 1 q →
+      r ≡ same_parameter same_value p a → s ≡ same_parameter same_value q b → r ≡ true → s ≡ same_parameters same_value ps (a ∷ b ∷ [])
+  two_then ps p q a b r s l e f h k t = sym (two_parameters ps p q a b l e f ∙ ap (λ x. x && same_parameter same_value q b) (sym h ∙ t) ∙ sym k)
+
+  pub two_else : (ps : List (Parameter V)) (p q a b : Parameter V) (r : Bool) → length ps ≡ 2 → p ≡ get_or ps 0 p → q ≡ get_or ps 1 q →
+      r ≡ same_parameter same_value p a → r ≡ false → r ≡ same_parameters same_value ps (a ∷ b ∷ [])
+  two_else ps p q a b r l e f h t = t ∙ sym (two_parameters ps p q a b l e f ∙ ap (λ x. x && same_parameter same_value q b) (sym h ∙ t))

@@ -12,7 +12,7 @@ use Rattle.st_tree.specs.declared.declaration.Method.{Method}
 use Rattle.st_tree.specs.declared.declaration.ClassSort.{ClassSort}
 use Rattle.st_tree.specs.declared.declaration.ClassSort.TheVariants as class_sort
 use Rattle.st_tree.specs.declared.declaration.ClassDecl.{ClassDecl}
-use Rattle.st_rules.specs.declared.access.Access.TheVariants.{Private}
+use Rattle.st_rules.specs.declared.modifiers.Access.TheVariants.{Private}
 use Rattle.st_rules.specs.declared.ids.MethodId.{MethodId}
 use Rattle.st_rules.specs.declared.signature.Signatures.{Signatures}
 use Rattle.st_rules.specs.Faults.{Faults, when}

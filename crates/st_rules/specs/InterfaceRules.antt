@@ -5,7 +5,7 @@ use Rattle.plc_text.specs.declared.code.Code.TheVariants.{E06, E11}
 use Rattle.st_types.specs.declared.st_type.StType.TheVariants.{Interface}
 use Rattle.st_tree.specs.declared.declaration.ClassDecl.{ClassDecl}
 use Rattle.st_tree.specs.declared.declaration.InterfaceDecl.{InterfaceDecl}
-use Rattle.st_rules.specs.declared.access.Access.TheVariants.{Public}
+use Rattle.st_rules.specs.declared.modifiers.Access.TheVariants.{Public}
 use Rattle.st_rules.specs.declared.ids.MethodId.{MethodId}
 use Rattle.st_rules.specs.declared.signature.Signatures.{Signatures}
 use Rattle.st_rules.specs.Faults.{Faults, when}

@@ -4,8 +4,8 @@ use Rattle.std.specs.List.{list_any}
 use Rattle.std.specs.Option.{option_or}
 use Rattle.st_tree.specs.declared.declaration.Modifier.{Modifier}
 use Rattle.st_tree.specs.declared.declaration.Modifier.TheVariants as modifier
-use Rattle.st_rules.specs.declared.access.Access.{Access}
-use Rattle.st_rules.specs.declared.access.Access.TheVariants.{Public, Protected, Private}
+use Rattle.st_rules.specs.declared.modifiers.Access.{Access}
+use Rattle.st_rules.specs.declared.modifiers.Access.TheVariants.{Public, Protected, Private}
 
 -- the access that a word gives. INTERNAL counts as PUBLIC
 abbrev pub access_word : Modifier → Option Access

@@ -129,11 +129,17 @@ hook_input falsehood name = record { sort = sort.Input; name = name; kind = Some
 abbrev pub hook_with : {V : Type 0} → List (Parameter V) → Signature V
 hook_with inputs = record { result = Written (Some (Elementary BOOL)); parameters = inputs }
 
+abbrev pub init_inputs : {V : Type 0} → V → List (Parameter V)
+init_inputs falsehood = hook_input falsehood (codes "BINITRETAINS") ∷ hook_input falsehood (codes "BINCOPYCODE") ∷ []
+
+abbrev pub exit_inputs : {V : Type 0} → V → List (Parameter V)
+exit_inputs falsehood = hook_input falsehood (codes "BINCOPYCODE") ∷ []
+
 -- the signature that FB_init, FB_exit and FB_reinit have; no other name asks for one
 abbrev pub hook_signature : {V : Type 0} → V → List ℕ → Option (Signature V)
 hook_signature falsehood name =
-    if same name (codes "FB_INIT") then Some (hook_with (hook_input falsehood (codes "BINITRETAINS") ∷ hook_input falsehood (codes "BINCOPYCODE") ∷ []))
-    else if same name (codes "FB_EXIT") then Some (hook_with (hook_input falsehood (codes "BINCOPYCODE") ∷ []))
+    if same name (codes "FB_INIT") then Some (hook_with (init_inputs falsehood))
+    else if same name (codes "FB_EXIT") then Some (hook_with (exit_inputs falsehood))
     else if same name (codes "FB_REINIT") then Some (hook_with [])
     else None
 

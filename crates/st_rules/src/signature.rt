@@ -1,12 +1,12 @@
 //! Signatures of methods (IEC 61131-3:2013, 6.6.5.4).
 
-ghost use Rattle.std.specs.Prelude.{◌≡◌};
+ghost use Rattle.std.specs.Prelude.{◌≡◌, []};
 ghost use Rattle.st_rules.specs.Signatures as signatures;
 ghost use Rattle.st_rules.specs.Types as types;
 
 use plc_text::{Items, Text};
 use st_tree::SectionSort;
-use st_types::StType;
+use st_types::{Elem, StType};
 
 /// The type of a result.
 #[derive(Drop)]
@@ -116,4 +116,88 @@ pub fn same_signature<V: PartialEq>(a: &Signature<V>, b: &Signature<V>) -> bool
 {
     same_result(&a.result, &b.result)
         && same_parameters(a.parameters.as_slice(), b.parameters.as_slice())
+}
+
+fn is_hook_input<V: PartialEq>(parameter: &Parameter<V>, name: &str, falsehood: &V) -> bool
+    ensures { result ≡ signatures.same_parameter V.eq parameter.now (signatures.hook_input falsehood.now name.now) }
+{
+    same_sort(parameter.sort, SectionSort::Input)
+        && parameter.name.as_str() == name
+        && is_bool(&parameter.kind)
+        && is_worth(&parameter.initial, falsehood)
+}
+
+fn is_bool(kind: &Option<StType>) -> bool
+    ensures { result ≡ signatures.same_if_told types.same_type kind.now (Some (StType.Elementary Elem.Bool)) }
+{
+    match kind {
+        Some(kind) => kind.is_same(&StType::Elementary(Elem::Bool)),
+        None => true,
+    }
+}
+
+fn is_worth<V: PartialEq>(value: &Option<V>, other: &V) -> bool
+    ensures { result ≡ signatures.same_if_told V.eq value.now (Some other.now) }
+{
+    match value {
+        Some(value) => value == other,
+        None => true,
+    }
+}
+
+fn has_bool_result(result_type: &ResultType) -> bool
+    ensures { result ≡ signatures.same_result result_type.now (ResultType.Written (Some (StType.Elementary Elem.Bool))) }
+{
+    match result_type {
+        ResultType::Nothing => false,
+        ResultType::Written(kind) => is_bool(kind),
+    }
+}
+
+fn has_init_inputs<V: PartialEq>(parameters: &[Parameter<V>], falsehood: &V) -> bool
+    ensures { result ≡ signatures.same_parameters V.eq parameters.now (signatures.init_inputs falsehood.now) }
+{
+    if parameters.len() != 2 {
+        return false;
+    }
+    let retains = is_hook_input(&parameters[0], "BINITRETAINS", falsehood);
+    let copies = is_hook_input(&parameters[1], "BINCOPYCODE", falsehood);
+    retains && copies
+}
+
+fn has_exit_inputs<V: PartialEq>(parameters: &[Parameter<V>], falsehood: &V) -> bool
+    ensures { result ≡ signatures.same_parameters V.eq parameters.now (signatures.exit_inputs falsehood.now) }
+{
+    if parameters.len() != 1 {
+        return false;
+    }
+    is_hook_input(&parameters[0], "BINCOPYCODE", falsehood)
+}
+
+fn has_no_inputs<V: PartialEq>(parameters: &[Parameter<V>]) -> bool
+    ensures { result ≡ signatures.same_parameters V.eq parameters.now [] }
+{
+    parameters.is_empty()
+}
+
+/// Whether a method of the name runs at the beginning or the end of an instance (FB_init, FB_exit, FB_reinit), and has another
+/// signature than that asks for, as far as it can be told. `falsehood` is what FALSE is worth.
+pub fn differs_from_hook<V: PartialEq>(name: &Text, signature: &Signature<V>, falsehood: &V) -> bool
+    ensures { result ≡ signatures.differ V.eq (Some signature.now) (signatures.hook_signature falsehood.now name.now) }
+{
+    let parameters = signature.parameters.as_slice();
+    let inputs = match name.as_str() {
+        "FB_INIT" => has_init_inputs(parameters, falsehood),
+        "FB_EXIT" => has_exit_inputs(parameters, falsehood),
+        "FB_REINIT" => has_no_inputs(parameters),
+        _ => return false,
+    };
+    !(has_bool_result(&signature.result) && inputs)
+}
+
+/// Whether methods of the name run at the beginning or the end of an instance.
+pub fn is_hook(name: &Text) -> bool
+    ensures { result ≡ signatures.is_hook name.now }
+{
+    matches!(name.as_str(), "FB_INIT" | "FB_EXIT" | "FB_REINIT")
 }

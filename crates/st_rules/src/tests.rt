@@ -1,8 +1,8 @@
 //! Signatures are compared as a whole; the first word of access counts.
 
 use crate::{
-    Access, Parameter, ResultType, Signature, earlier, method_access, same_signature,
-    written_access,
+    Access, Parameter, ResultType, Signature, differs_from_hook, earlier, is_hook, method_access,
+    same_signature, written_access,
 };
 use plc_text::{Code, Items, NoMemory, Text};
 use st_tree::{Modifier, SectionSort};
@@ -103,6 +103,43 @@ fn signatures(rt: HostRuntime) -> Result<(), NoMemory> {
     };
     assert!(rt; !same_signature(&none, &no_result));
     assert!(rt; same_signature(&none, &none));
+    Ok(())
+}
+
+/// What FB_exit has with this first value, and what another method may have.
+#[test]
+fn hooks(rt: HostRuntime) -> Result<(), NoMemory> {
+    let alloc = rt.alloc();
+    let exit = Text::copy(alloc, "FB_EXIT")?;
+    let other = Text::copy(alloc, "FB_EXITS")?;
+    for (initial, differs) in [(Some(0), false), (Some(1), true), (None, false)] {
+        let bool = StType::Elementary(Elem::Bool);
+        let copies = parameter(
+            alloc,
+            SectionSort::Input,
+            "BINCOPYCODE",
+            Some(bool),
+            initial,
+        )?;
+        let signature = with_one(alloc, copies)?;
+        assert_eq!(rt; differs_from_hook(&exit, &signature, &0), differs);
+        assert!(rt; !differs_from_hook(&other, &signature, &0));
+    }
+    for name in ["FB_INIT", "FB_REINIT"] {
+        let bool = StType::Elementary(Elem::Bool);
+        let copies = parameter(
+            alloc,
+            SectionSort::Input,
+            "BINCOPYCODE",
+            Some(bool),
+            Some(0),
+        )?;
+        let signature = with_one(alloc, copies)?;
+        let name = Text::copy(alloc, name)?;
+        assert!(rt; differs_from_hook(&name, &signature, &0));
+        assert!(rt; is_hook(&name));
+    }
+    assert!(rt; !is_hook(&other));
     Ok(())
 }
 

@@ -1,6 +1,6 @@
 use Rattle.std.proofs.Common.{◌≡◌, drop}
 use Rattle.st_rules.specs.Modifiers.{written_access}
-use Rattle.st_rules.proofs.access.written_access.Given as goal
+use Rattle.st_rules.proofs.modifiers.written_access.Given as goal
 
 -- what is left gives what all gives
 abbrev pub invariant-loop-modifier : goal.invariant-loop-modifier
