@@ -1,3 +1,5 @@
+//! Texts with the tokens and lexemes that they are, and refusals.
+
 use crate::{Lexer, MAX_SOURCE, Next, is_init_on_change, is_no_copy, old_name, tokens};
 use plc_text::{Denied, Text};
 use st_tree::TokenKind;
@@ -146,6 +148,7 @@ fn tells_marks(rt: HostRuntime) {
     assert_eq!(rt; old_name(mark), Some("Old_1"));
     assert_eq!(rt; old_name("{}"), None);
     assert!(rt; !is_no_copy(mark) && !is_init_on_change(mark));
+    assert!(rt; !is_no_copy("(attribute 'no_copy')") && old_name("renamed_from old").is_none());
     assert!(rt; is_no_copy("{attribute'No_Copy'}"));
     assert!(rt; is_init_on_change("{attribute 'init_on_onlchange' }"));
 }
