@@ -1,4 +1,5 @@
 pub mod Token
 pub mod Lexer
 pub mod Source
+pub mod Lexeme
 pub mod Private
