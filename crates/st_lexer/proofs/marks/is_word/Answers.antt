@@ -1,5 +1,5 @@
 use Rattle.std.proofs.Common.{ap, nat_eq, length, sym, ◌∙◌}
-use Rattle.st_lexer.proofs.KindLaws.{whole_word}
+use Rattle.st_lexer.proofs.RunLaws.{whole_word}
 use Rattle.st_lexer.proofs.marks.is_word.Goals as goal
 
 pub returns-then-begins_letter : goal.returns-then-begins_letter

@@ -1,21 +1,13 @@
 -- How far each form of piece reaches from the front of a text, 0 where it has none there: what each private function of the lexer
 -- does. The laws in proofs/ say that this is the longest front that is such a piece.
-use Rattle.std.specs.Prelude.{ℕ, ◌+◌, Bool, true, false, ◌&&◌, ◌||◌, not, nat_eq, max, List, [], ◌∷◌, length, take, drop, codes, Option, Some, None, if◌then◌else◌}
-use Rattle.std.specs.List.{prefix_len, list_all, take_while}
-use Rattle.st_tree.specs.declared.token.TokenKind.{TokenKind}
-use Rattle.st_tree.specs.declared.token.TokenKind.TheVariants.{Word, Keyword, Int, Time, Address, Symbol, Mark}
-use Rattle.st_lexer.specs.declared.piece.Reaches.{Reaches}
-use Rattle.st_tree.specs.Marks.{is_mark, behind_blanks}
-use Rattle.plc_text.specs.Words.{behind_all, is_one_of, opens, begins, is_blank, is_digit, is_binary_digit, is_octal_digit, is_hexadecimal_digit, is_letter, is_word_character}
-use Rattle.st_tree.specs.Terminal.{is_name, is_keyword, is_symbol}
-use Rattle.st_tree.specs.Pieces.{is_no_line_feed, opens_one_of, opens_comment, is_number_sign, is_underscore, units}
+use Rattle.std.specs.Prelude.{ℕ, ◌+◌, Bool, true, false, ◌&&◌, not, nat_eq, max, List, [], ◌∷◌, length, take, drop, codes, if◌then◌else◌}
+use Rattle.std.specs.List.{prefix_len}
+use Rattle.plc_text.specs.Words.{is_one_of, opens, begins, is_digit, is_binary_digit, is_octal_digit, is_hexadecimal_digit, is_letter, is_word_character}
+use Rattle.st_tree.specs.Pieces.{is_no_line_feed, opens_one_of, is_number_sign, is_underscore, units}
 
 -- a head and what stands behind it, or nothing where nothing stands behind it
 abbrev pub with_head : ℕ → ℕ → ℕ
 with_head head tail = if nat_eq tail 0 then 0 else head + tail
-
-abbrev pub white_len : List ℕ → ℕ
-white_len text = if begins is_blank text then 1 else 0
 
 -- up to the end of the first mark, where `passed` bytes were passed
 abbrev pub closing_from : List ℕ → ℕ → List ℕ → ℕ
@@ -111,42 +103,3 @@ word_len text =
     if not (begins is_letter text) then 0
     else if is_one_of (codes "T" ∷ codes "TIME" ∷ []) (take len text) && begins is_number_sign (drop len text) then 0
     else len
-
-abbrev pub symbol_len : List ℕ → ℕ
-symbol_len text =
-    if opens_comment text then 0
-    else if is_symbol (take 2 text) then length (take 2 text)
-    else if is_symbol (take 1 text) then 1
-    else 0
-
--- white space, a name and white space
-abbrev pub names : List ℕ → Bool
-names text =
-    begins is_blank text
-    && (is_name (take_while is_word_character (behind_blanks text)) && list_all is_blank (behind_all is_word_character (behind_blanks text)))
-
-abbrev pub reaches_of : List ℕ → Reaches
-reaches_of text = record {
-  white = white_len text;
-  comment = comment_len text;
-  pragma = pragma_len text;
-  int = int_len text;
-  time = time_len text;
-  address = address_len text;
-  word = word_len text;
-  symbol = symbol_len text;
-}
-
-abbrev pub longest_of : Reaches → ℕ
-longest_of r = max r.white (max r.comment (max r.pragma (max r.int (max r.time (max r.address (max r.word r.symbol))))))
-
--- what a piece is, told from how far each form reaches
-abbrev pub kind_of : Reaches → List ℕ → Option TokenKind
-kind_of r piece =
-    if nat_eq r.white (length piece) || nat_eq r.comment (length piece) then None
-    else if nat_eq r.pragma (length piece) then (if is_mark piece then Some Mark else None)
-    else if nat_eq r.int (length piece) then Some Int
-    else if nat_eq r.time (length piece) then Some Time
-    else if nat_eq r.address (length piece) then Some Address
-    else if nat_eq r.word (length piece) then Some (if is_keyword piece then Keyword else Word)
-    else Some Symbol
