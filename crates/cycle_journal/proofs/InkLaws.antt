@@ -1,6 +1,6 @@
--- Texts of bytes above a number: words are of bytes above the space (32), and lines of bytes above LF.
+-- Texts of bytes above a number: fields are of bytes above the space (32), and lines of bytes above LF.
 use Rattle.std.proofs.Common.{◌≡◌, ◌⊎◌, inl, inr, ⊎_elim, ℕ, zero, suc, ◌+◌, ◌%◌, ◌/◌, ◌<◌, ◌≤◌, Bool, true, false, ◌&&◌, ◌||◌, List, [], ◌∷◌, ◌++◌, refl, sym, subst, arith}
-use Rattle.std.specs.Prelude.{codes, nat_lt, nat_le, nat_eq, cond}
+use Rattle.std.specs.Prelude.{codes, nat_lt, nat_le, nat_eq, cond, not}
 use Rattle.std.specs.Fmt.{decimal, digits, digits_onto, digit_glyph}
 use Rattle.std.specs.List.{list_all, AllByRecursion}
 use Rattle.std.specs.Str.{bytes_eq}
@@ -16,9 +16,12 @@ use Rattle.plc_text.specs.declared.code.Code.{Code}
 use Rattle.plc_text.specs.declared.code.Code.TheVariants.{E01}
 use Rattle.plc_text.specs.declared.fault.FaultKind.{FaultKind}
 use Rattle.plc_text.specs.declared.fault.FaultKind.TheVariants.{Divide}
-use Rattle.cycle_journal.specs.Names.{is_name_letter, is_name_character, is_name}
-use Rattle.cycle_journal.specs.Journal.{image, is_declaration}
-use Rattle.cycle_journal.proofs.LineLaws.{HoldsNo}
+use Rattle.plc_text.specs.Text.{folded}
+use Rattle.plc_text.specs.Words.{same, is_letter, is_word_character, is_word, is_upper_word}
+use Rattle.st_tree.specs.Terminal.{is_keyword}
+use Rattle.cycle_journal.specs.Writing.{image}
+use Rattle.cycle_journal.specs.Fits.{is_declaration}
+use Rattle.plc_text.proofs.LineLaws.{HoldsNo}
 
 abbrev pub Above : ℕ → List ℕ → Type 0
 Above n text = list_all (nat_lt n) text ≡ true
@@ -52,11 +55,11 @@ all_above n p f (b ∷ text) h =
     let parts = and_parts (p b) (list_all p text) h in
     both_true (nat_lt n b) (list_all (nat_lt n) text) (lt-ltb n b (f b parts.0)) (all_above n p f text parts.1)
 
--- a word's bytes may stand in a line
+-- a field's bytes may stand in a line
 pub above_less : (text : List ℕ) → Above 32 text → Above 31 text
 above_less text h = all_above 31 (nat_lt 32) (λ b t. let l = ltb-true 32 b t in omega arith) text h
 
--- a number in decimal is a word
+-- a number in decimal is a field
 glyph_above : (d : ℕ) → d < 10 → nat_lt 32 (digit_glyph false d) ≡ true
 glyph_above d h =
     let small = lt-ltb d 10 h in
@@ -76,29 +79,28 @@ pub decimal_above : (n : ℕ) → Above 32 (decimal n)
 unfolding digits
 decimal_above n = onto_above 64 n [] refl
 
--- a name is a word
-letter_above : (b : ℕ) → is_name_letter b ≡ true → 32 < b
-letter_above b h =
-    ⊎_elim (λ e. let l = leb-true 65 b (and_parts (nat_le 65 b) (nat_le b 90) e).0 in omega arith)
-    (λ (e : nat_eq b 95 ≡ true). let same : b ≡ 95 = grind (arith, nat_tests) in omega arith)
-    (one_true (nat_le 65 b && nat_le b 90) (nat_eq b 95) h)
+-- a name is one
+letter_above : (b : ℕ) → is_letter b ≡ true → 32 < b
+letter_above b h = grind (arith, nat_tests)
 
-character_above : (b : ℕ) → is_name_character b ≡ true → 32 < b
-character_above b h =
-    ⊎_elim (letter_above b) (λ e. let l = leb-true 48 b (and_parts (nat_le 48 b) (nat_le b 57) e).0 in omega arith)
-    (one_true (is_name_letter b) (nat_le 48 b && nat_le b 57) h)
+character_above : (b : ℕ) → is_word_character b ≡ true → 32 < b
+character_above b h = grind (arith, nat_tests)
 
-pub name_above : (text : List ℕ) → is_name text ≡ true → Above 32 text
-name_above [] h = absurd (false≢true h)
-name_above (b ∷ text) h =
-    let parts = and_parts (is_name_letter b) (list_all is_name_character text) h in
-    both_true (nat_lt 32 b) (list_all (nat_lt 32) text) (lt-ltb 32 b (letter_above b parts.0)) (all_above 32 is_name_character character_above text parts.1)
+word_above : (text : List ℕ) → is_word text ≡ true → Above 32 text
+word_above [] h = absurd (false≢true h)
+word_above (b ∷ text) h =
+    let parts = and_parts (is_letter b) (list_all is_word_character text) h in
+    both_true (nat_lt 32 b) (list_all (nat_lt 32) text) (lt-ltb 32 b (letter_above b parts.0)) (all_above 32 is_word_character character_above text parts.1)
+
+pub name_above : (text : List ℕ) → is_upper_word text ≡ true → Above 32 text
+name_above text h = word_above text (and_parts (is_word text) (same (folded text) text) h).0
 
 -- a text of a name or a dash
 pub declaration_above : (text : List ℕ) → is_declaration text ≡ true → Above 32 text
 declaration_above text h =
-    ⊎_elim (λ e. let same = (bytes_eq-Decides text (codes "-")).0 e in subst (Above 32) (sym same) refl) (name_above text)
-    (one_true (bytes_eq text (codes "-")) (is_name text) h)
+    ⊎_elim (λ e. let same = (bytes_eq-Decides text (codes "-")).0 e in subst (Above 32) (sym same) refl)
+    (λ e. name_above text (and_parts (is_upper_word text) (not (is_keyword text)) e).0)
+    (one_true (bytes_eq text (codes "-")) (is_upper_word text && not (is_keyword text)) h)
 
 -- a hexadecimal digit is above the space
 hex_digit_above : (b : ℕ) → is_hex_digit b ≡ true → 32 < b

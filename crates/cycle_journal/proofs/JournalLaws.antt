@@ -13,14 +13,18 @@ use Rattle.cycle_journal.specs.declared.play.Play.TheVariants.{Cycle, Change, Re
 use Rattle.cycle_journal.specs.declared.entry.Entry.{Entry}
 use Rattle.cycle_journal.specs.declared.entry.Answer.{Answer}
 use Rattle.cycle_journal.specs.declared.entry.Answer.TheVariants.{Done, Fault, Held, NoTask, Loaded, Refused, RefusedMemory, Released}
-use Rattle.cycle_journal.specs.Names.{is_name}
-use Rattle.cycle_journal.specs.Lines.{lines_of, begun_with, ended, text_of}
-use Rattle.cycle_journal.specs.Journal.{play_numbered, image, kind_text, answer_text, play_text, entry_text, journal_lines, journal_text, name_of, FitsAnswer, FitsEntry, Fits, Named}
-use Rattle.cycle_journal.specs.Reading.{front_word, number_in, entry_in}
+use Rattle.plc_text.specs.Words.{is_upper_word}
+use Rattle.plc_text.specs.Lines.{lines_of, ended, text_of}
+use Rattle.cycle_journal.specs.Play.{play_numbered, name_of, Named}
+use Rattle.cycle_journal.specs.Writing.{image, kind_text, answer_text, play_text, entry_text, journal_lines, journal_text}
+use Rattle.cycle_journal.specs.Fits.{FitsAnswer, FitsEntry, Fits}
+use Rattle.plc_text.specs.Fields.{first_field}
+use Rattle.cycle_journal.specs.Private.Candidate.{number_in, entry_in}
 use Rattle.cycle_journal.specs.declared.journal_error.JournalError.{JournalError}
 use Rattle.cycle_journal.specs.declared.journal_error.JournalError.TheVariants.{Bad, NoMemory}
-use Rattle.cycle_journal.specs.Reader.{OnBad, CanBegin, FirstBad, NoJournal, IsNoLine, Stops, AreEntries, end_line}
-use Rattle.cycle_journal.proofs.LineLaws.{HoldsNo, lines_of-ended, text_of-last}
+use Rattle.cycle_journal.specs.Reading.{OnBad, CanBegin, FirstBad, NoJournal}
+use Rattle.cycle_journal.specs.Private.Reading.{IsNoLine, Stops, AreEntries, end_line}
+use Rattle.plc_text.proofs.LineLaws.{HoldsNo, lines_of-text_of, text_of-last, text_of-lines_of, lines_few}
 use Rattle.cycle_journal.proofs.InkLaws.{Above, above_append, above_no, above_less, decimal_above, name_above, declaration_above, image_above, code_above, fault_above}
 use Rattle.cycle_journal.proofs.AgainLaws.{entry_again, entry_fields, first_word, number_again, named_play}
 
@@ -54,7 +58,7 @@ answer_line version (Refused r) h =
 answer_line version RefusedMemory h = refl
 answer_line version Released h = refl
 
-play_line : (play : Play) → is_name (name_of play) ≡ true → Above 31 (play_text (Some play))
+play_line : (play : Play) → is_upper_word (name_of play) ≡ true → Above 31 (play_text (Some play))
 play_line (Cycle task now input) h =
     above_append 31 (task ++ codes " ") (decimal now) (above_append 31 task (codes " ") (above_less task (name_above task h)) refl) (decimal_line now)
 play_line (Change name source) h = above_less name (name_above name h)
@@ -69,14 +73,12 @@ entry_line plays e named h =
     let text = above_append 31 (decimal e.version) (32 ∷ (decimal e.play ++ 32 ∷ (play_text (play_numbered plays e.play) ++ 32 ∷ answer_text e.answer))) (decimal_line e.version) number in
     subst (Above 31) (sym (entry_fields plays e)) text
 
--- a text of ended lines has those lines
 unended : (line : List ℕ) → Above 31 line → HoldsNo 10 line
 unended line h = above_no 31 10 (omega arith) line h
 
-lines_of-text_of : (lines : List (List ℕ)) → AllByRecursion (Above 31) lines → lines_of (text_of lines) ≡ lines
-lines_of-text_of [] h = refl
-lines_of-text_of (line ∷ lines) h =
-    ap lines_of (append_assoc line (10 ∷ []) (text_of lines)) ∙ lines_of-ended line (text_of lines) (unended line h.0) ∙ ap (λ ls. line ∷ ls) (lines_of-text_of lines h.1)
+all_unended : (lines : List (List ℕ)) → AllByRecursion (Above 31) lines → AllByRecursion (HoldsNo 10) lines
+all_unended [] h = tt
+all_unended (line ∷ lines) h = (unended line h.0, all_unended lines h.1)
 
 entry_lines : (plays : List Play) (entries : List Entry) (last : List ℕ) → Named plays → Fits plays entries → Above 31 last → AllByRecursion (Above 31) (map (entry_text plays) entries ++ last ∷ [])
 entry_lines plays [] last named h l = (l, tt)
@@ -84,33 +86,14 @@ entry_lines plays (e ∷ entries) last named h l = (entry_line plays e named h.0
 
 pub lines_of-journal : (plays : List Play) (entries : List Entry) → Named plays → Fits plays entries → lines_of (journal_text plays entries) ≡ journal_lines plays entries
 lines_of-journal plays entries named h =
-    lines_of-text_of (journal_lines plays entries) (refl, entry_lines plays entries (end_line (length entries)) named h (decimal_line (length entries)))
-
--- a text that LF ends is the text of its lines
-text_of-begun : (b : ℕ) (lines : List (List ℕ)) (text : List ℕ) → text_of lines ≡ text → 0 < length text → text_of (begun_with b lines) ≡ b ∷ text
-text_of-begun b [] text e l = let none : text ≡ [] = sym e in absurd (omega (arith, ap length none))
-text_of-begun b (line ∷ lines) text e l = ap (λ t. b ∷ t) e
-
-begin_line : (b : ℕ) (lines : List (List ℕ)) (text : List ℕ) → text_of lines ≡ text → 0 < length text → (is : Bool) → nat_eq b 10 ≡ is
-    → text_of (if is then [] ∷ lines else begun_with b lines) ≡ b ∷ text
-begin_line b lines text e l true t =
-    let same : 10 ≡ b = grind (arith, nat_tests) in
-    ap (λ rest. 10 ∷ rest) e ∙ ap (λ (x : ℕ). x ∷ text) same
-begin_line b lines text e l false t = text_of-begun b lines text e l
-
-pub text_of-lines_of : (front : List ℕ) → text_of (lines_of (front ++ 10 ∷ [])) ≡ front ++ 10 ∷ []
-text_of-lines_of [] = refl
-text_of-lines_of (b ∷ front) =
-    let rest = text_of-lines_of front in
-    let long : 0 < length (front ++ 10 ∷ []) = omega (arith, length-append front (10 ∷ [])) in
-    begin_line b (lines_of (front ++ 10 ∷ [])) (front ++ 10 ∷ []) rest long (nat_eq b 10) refl
+    lines_of-text_of (journal_lines plays entries) (all_unended (journal_lines plays entries) (refl, entry_lines plays entries (end_line (length entries)) named h (decimal_line (length entries))))
 
 -- no entry's line is the last line
 pub entry_not_end : (plays : List Play) (e : Entry) (count : ℕ) → FitsEntry plays e → entry_text plays e ≡ end_line count → ⊥
 unfolding number_in
 entry_not_end plays e count h same =
     let first = first_word (decimal e.version) (decimal e.play ++ 32 ∷ (play_text (play_numbered plays e.play) ++ 32 ∷ answer_text e.answer)) (decimal_above e.version) in
-    let word : decimal e.version ≡ codes "end" = sym first ∙ ap front_word (sym (entry_fields plays e) ∙ same) in
+    let word : decimal e.version ≡ codes "end" = sym first ∙ ap first_field (sym (entry_fields plays e) ∙ same) in
     let number : Some e.version ≡ None = sym (number_again e.version h.version-fits) ∙ ap number_in word in
     cc
 
@@ -281,19 +264,6 @@ is_journal plays text middle entries after first are over =
     let front = over.1.0 in
     let ends = over.1.1 in
     (are.fit, ends ∙ sym (text_of-lines_of front) ∙ ap (λ t. text_of (lines_of t)) (sym ends) ∙ ap text_of lines)
-
--- a text has no more lines than bytes
-begun_few : (b : ℕ) (lines : List (List ℕ)) → length (begun_with b lines) ≤ suc (length lines)
-begun_few b [] = omega arith
-begun_few b (line ∷ lines) = omega arith
-
-lines_few_from : (b : ℕ) (lines : List (List ℕ)) (n : ℕ) → length lines ≤ n → (is : Bool) → length (if is then [] ∷ lines else begun_with b lines) ≤ suc n
-lines_few_from b lines n l true = omega arith
-lines_few_from b lines n l false = omega (arith, begun_few b lines)
-
-pub lines_few : (text : List ℕ) → length (lines_of text) ≤ length text
-lines_few [] = omega arith
-lines_few (b ∷ text) = lines_few_from b (lines_of text) (length text) (lines_few text) (nat_eq b 10)
 
 pub middle_few : (text : List ℕ) (middle : List (List ℕ)) → lines_of text ≡ first_line ∷ middle → length middle < length text
 middle_few text middle first = omega (arith, ap length first, lines_few text)

@@ -1,8 +1,8 @@
-pub mod LineLaws
 pub mod WritingLaws
-pub mod WordLaws
+pub mod FieldLaws
 pub mod RefusalLaws
 pub mod InkLaws
+pub mod PaddingLaws
 pub mod AgainLaws
 pub mod ReaderLaws
 pub mod JournalLaws

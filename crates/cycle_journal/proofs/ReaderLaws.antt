@@ -5,9 +5,11 @@ use Rattle.cycle_journal.specs.declared.play.Play.{Play}
 use Rattle.cycle_journal.specs.declared.entry.Entry.{Entry}
 use Rattle.cycle_journal.specs.declared.line_error.LineError.{LineError}
 use Rattle.cycle_journal.specs.declared.line_error.LineError.TheVariants as line
-use Rattle.cycle_journal.specs.Journal.{entry_text, Named, Fits, FitsEntry}
-use Rattle.cycle_journal.specs.Reading.{Gives, entry_in}
-use Rattle.cycle_journal.specs.Reader.{OnBadLine, IsNoEntry}
+use Rattle.cycle_journal.specs.Writing.{entry_text}
+use Rattle.cycle_journal.specs.Play.{Named}
+use Rattle.cycle_journal.specs.Fits.{Fits, FitsEntry}
+use Rattle.cycle_journal.specs.Private.Candidate.{Gives, entry_in}
+use Rattle.cycle_journal.specs.Private.Reading.{OnBadLine, IsNoEntry}
 use Rattle.cycle_journal.proofs.AgainLaws.{entry_again}
 
 same_candidate : (plays : List Play) (text : List ℕ) (found : Option Entry) (e : Entry) → Named plays → entry_in plays text ≡ found → FitsEntry plays e → text ≡ entry_text plays e → found ≡ Some e

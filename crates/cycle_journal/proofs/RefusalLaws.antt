@@ -7,7 +7,7 @@ use Rattle.plc_text.specs.declared.code.Code.{Code}
 use Rattle.plc_text.specs.declared.code.Code.TheVariants.{E17}
 use Rattle.plc_text.specs.declared.fault.FaultKind.{FaultKind}
 use Rattle.plc_text.specs.declared.refusal.Refusal.{Refusal}
-use Rattle.cycle_journal.specs.Reading.{refusal_of}
+use Rattle.cycle_journal.specs.Private.Candidate.{refusal_of}
 
 abbrev refusal_with : (code : Code) → List ℕ → ℕ → (kind : Option FaultKind) → is_some kind ≡ is_e17 code → Refusal
 refusal_with code declaration line kind p = record { code = code; declaration = declaration; line = line; kind = kind; kind_with_e17 = p }

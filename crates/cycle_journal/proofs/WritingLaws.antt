@@ -5,9 +5,9 @@ use Rattle.std.specs.Fmt.{decimal}
 use Rattle.std.specs.List.{flat_map}
 use Rattle.cycle_journal.specs.declared.play.Play.{Play}
 use Rattle.cycle_journal.specs.declared.entry.Entry.{Entry}
-use Rattle.cycle_journal.specs.Journal.{entry_text, journal_text}
-use Rattle.cycle_journal.specs.Lines.{ended}
-use Rattle.cycle_journal.proofs.LineLaws.{text_of-last}
+use Rattle.cycle_journal.specs.Writing.{entry_text, journal_text}
+use Rattle.plc_text.specs.Lines.{ended}
+use Rattle.plc_text.proofs.LineLaws.{text_of-last}
 
 regrouped : (front digits : List ℕ) → ((front ++ codes "end ") ++ digits) ++ codes "\n" ≡ front ++ ended (codes "end " ++ digits)
 regrouped front digits = simp append_assoc

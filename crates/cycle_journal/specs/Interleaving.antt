@@ -5,7 +5,7 @@ use Rattle.std.specs.Str.{bytes_eq}
 use Rattle.cycle_journal.specs.declared.play.Play.{Play}
 use Rattle.cycle_journal.specs.declared.play.Play.TheVariants.{Cycle, Change, Reset}
 use Rattle.cycle_journal.specs.declared.entry.Entry.{Entry}
-use Rattle.cycle_journal.specs.Journal.{play_numbered}
+use Rattle.cycle_journal.specs.Play.{play_numbered}
 
 -- The cycles and resets of a task are its lane, and all changes are one.
 pub data Lane : Type 0 where

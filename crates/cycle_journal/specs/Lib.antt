@@ -1,7 +1,8 @@
-pub mod Lines
-pub mod Names
-pub mod Journal
+pub mod Play
+pub mod Outputs
+pub mod Writing
+pub mod Fits
 pub mod Reading
-pub mod Reader
 pub mod Interleaving
 pub mod Summary
+pub mod Private

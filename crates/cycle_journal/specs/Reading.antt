@@ -1,139 +1,30 @@
--- Reading a candidate from a line: what each private function of the reader does. A line is taken only where the candidate
--- fits and its own text is the line, so what is read here need not be exact; proofs/ has the law that an entry's own line
--- gives the entry.
-use Rattle.std.specs.Prelude.{◌≡◌, ℕ, ◌+◌, ◌-◌, ◌*◌, ◌/◌, ◌^◌, Bool, false, ◌&&◌, nat_eq, nat_le, nat_lt, fold, find, List, [], ◌∷◌, length, codes, Option, Some, None, Result, Ok, Err, if◌then◌else◌, refl}
-use Rattle.std.specs.List.{list_all}
-use Rattle.std.specs.Result.{result_ok}
-use Rattle.std.specs.Str.{bytes_eq}
-use Rattle.plc_text.specs.Code.{code_name}
-use Rattle.plc_text.specs.Fault.{fault_name}
-use Rattle.plc_text.specs.declared.code.Code.{Code}
-use Rattle.plc_text.specs.declared.code.Code.TheVariants.{E01, E02, E03, E04, E05, E06, E07, E08, E09, E10, E11, E12, E13, E14, E15, E16, E17}
-use Rattle.plc_text.specs.declared.fault.FaultKind.{FaultKind}
-use Rattle.plc_text.specs.declared.fault.FaultKind.TheVariants.{Divide, Index, Null, Step, Watchdog, Depth}
-use Rattle.plc_text.specs.declared.refusal.Refusal.{Refusal}
-use Rattle.hex.specs.Hex.{decode_sized}
+-- Which line of a text is the first that no journal has.
+use Rattle.std.specs.Prelude.{◌≡◌, ℕ, ◌+◌, ◌-◌, ◌<◌, ◌≤◌, List, ◌++◌, length, take}
+use Rattle.plc_text.specs.Lines.{lines_of}
 use Rattle.cycle_journal.specs.declared.play.Play.{Play}
-use Rattle.cycle_journal.specs.declared.play.Play.TheVariants.{Cycle}
 use Rattle.cycle_journal.specs.declared.entry.Entry.{Entry}
-use Rattle.cycle_journal.specs.declared.entry.Answer.{Answer}
-use Rattle.cycle_journal.specs.declared.entry.Answer.TheVariants.{Done, Fault, Held, NoTask, Loaded, Refused, RefusedMemory, Released}
-use Rattle.cycle_journal.specs.declared.line_error.LineError.{LineError}
-use Rattle.cycle_journal.specs.declared.line_error.LineError.TheVariants as errors
-use Rattle.cycle_journal.specs.Journal.{play_numbered}
+use Rattle.cycle_journal.specs.declared.journal_error.JournalError.{JournalError}
+use Rattle.cycle_journal.specs.declared.journal_error.JournalError.TheVariants.{Bad, NoMemory}
+use Rattle.cycle_journal.specs.Fits.{Fits}
+use Rattle.cycle_journal.specs.Writing.{journal_text}
 
-infixl 10 ◌>>=◌
-abbrev pub ◌>>=◌ : {X Y : Type 0} → Option X → (X → Option Y) → Option Y
-(Some x) >>= f = f x
-None >>= f = None
+-- some journal that fits the plays begins with these lines
+abbrev pub CanBegin : List Play → List (List ℕ) → Type 0
+CanBegin plays lines = (entries : List Entry) × (more : List (List ℕ)) × Fits plays entries × (lines_of (journal_text plays entries) ≡ lines ++ more)
 
--- a function of the reader does this reading, unless memory runs out
-abbrev pub Gives : {X : Type 0} → Result X LineError → Option X → Type 0
-Gives (Ok x) reading = reading ≡ Some x
-Gives (Err errors.Bad) reading = reading ≡ None
-Gives (Err errors.NoMemory) reading = Unit {0}
+-- Of these lines the one of this number is the first that no journal has behind the lines before it. Where all of them can
+-- stand, it is the line behind them.
+pub record FirstBad (plays : List Play) (lines : List (List ℕ)) (line : ℕ) : Type 0 where
+  pub counted : 0 < line
+  pub within : line ≤ length lines + 1
+  pub stands : CanBegin plays (take (line - 1) lines)
+  pub stops : line ≤ length lines → CanBegin plays (take line lines) → ⊥
 
--- the word at the front: up to the first space, or all
-abbrev pub front_word : List ℕ → List ℕ
-front_word [] = []
-front_word (b ∷ bytes) = if nat_eq b 32 then [] else b ∷ front_word bytes
+-- no journal that fits the plays has this text
+abbrev pub NoJournal : List Play → List ℕ → Type 0
+NoJournal plays text = (entries : List Entry) → Fits plays entries → text ≡ journal_text plays entries → ⊥
 
--- what stands behind the first space
-abbrev pub behind_word : List ℕ → List ℕ
-behind_word [] = []
-behind_word (b ∷ bytes) = if nat_eq b 32 then bytes else behind_word bytes
-
-abbrev pub is_digit : ℕ → Bool
-is_digit c = nat_le 48 c && nat_le c 57
-
--- one digit or more
-abbrev pub is_number : List ℕ → Bool
-is_number [] = false
-is_number (c ∷ cs) = is_digit c && list_all is_digit cs
-
--- the number that the digits stand for
-abbrev pub number : List ℕ → ℕ
-number digits = fold (λ n c. 10 * n + (c - 48)) 0 digits
-
-unfoldable pub number_in : List ℕ → Option ℕ
-number_in word = if is_number word && nat_lt (number word) (2 ^ 32) then Some (number word) else None
-
-unfoldable pub code_in : List ℕ → Option Code
-code_in word = find (λ code. bytes_eq (code_name code) word) (E01 ∷ E02 ∷ E03 ∷ E04 ∷ E05 ∷ E06 ∷ E07 ∷ E08 ∷ E09 ∷ E10 ∷ E11 ∷ E12 ∷ E13 ∷ E14 ∷ E15 ∷ E16 ∷ E17 ∷ [])
-
-unfoldable pub fault_kind_in : List ℕ → Option FaultKind
-fault_kind_in word = find (λ kind. bytes_eq (fault_name kind) word) (Divide ∷ Index ∷ Null ∷ Step ∷ Watchdog ∷ Depth ∷ [])
-
--- output bytes in hexadecimal
-unfoldable pub hex_in : List ℕ → Option (List ℕ)
-hex_in word = if nat_le (length word / 2) 256 then result_ok (decode_sized word (length word / 2)) else None
-
-unfoldable pub outputs_in : List ℕ → Option (List ℕ)
-outputs_in word = if bytes_eq word (codes "-") then Some [] else hex_in word
-
-unfoldable pub done_in : List ℕ → Option Answer
-done_in text = do
-  ticks ← number_in (front_word text)
-  outputs ← outputs_in (behind_word text)
-  Some (Done ticks outputs)
-
-unfoldable pub fault_in : List ℕ → Option Answer
-fault_in text = do
-  kind ← fault_kind_in (front_word text)
-  line ← number_in (behind_word text)
-  Some (Fault (record { kind = kind; line = line }))
-
--- a kind of fault, or nothing where no word is left
-unfoldable pub kind_in : List ℕ → Option (Option FaultKind)
-kind_in [] = Some None
-kind_in (b ∷ bytes) = fault_kind_in (b ∷ bytes) >>= λ kind. Some (Some kind)
-
--- the refusal of these parts, which has a kind of fault exactly at E17
-unfoldable pub refusal_of : Code → List ℕ → ℕ → Option FaultKind → Option Refusal
-refusal_of E17 declaration line None = None
-refusal_of E17 declaration line (Some kind) = Some (record { code = E17; declaration = declaration; line = line; kind = Some kind; kind_with_e17 = refl })
-refusal_of code declaration line (Some kind) = None
-refusal_of code declaration line None = Some (record { code = code; declaration = declaration; line = line; kind = None; kind_with_e17 = refl })
-
-unfoldable pub refusal_in : List ℕ → Option Refusal
-refusal_in text = do
-  code ← code_in (front_word text)
-  line ← number_in (front_word (behind_word (behind_word text)))
-  kind ← kind_in (behind_word (behind_word (behind_word text)))
-  refusal_of code (front_word (behind_word text)) line kind
-
-unfoldable pub refused_in : List ℕ → Option Answer
-refused_in text =
-    if bytes_eq text (codes "memory") then Some RefusedMemory
-    else (refusal_in text >>= λ r. Some (Refused r))
-
-unfoldable pub ended_in : List ℕ → Option Answer
-ended_in [] = Some Released
-ended_in (b ∷ bytes) = done_in (b ∷ bytes)
-
--- the answer of a word and what stands behind it
-unfoldable pub answer_of : List ℕ → List ℕ → Option Answer
-answer_of word text =
-    if bytes_eq word (codes "ok") then ended_in text
-    else if bytes_eq word (codes "fault") then fault_in text
-    else if bytes_eq word (codes "held") then Some Held
-    else if bytes_eq word (codes "notask") then (number_in text >>= λ since. Some (NoTask since))
-    else if bytes_eq word (codes "loaded") then (number_in text >>= λ version. Some (Loaded version))
-    else if bytes_eq word (codes "refused") then refused_in text
-    else None
-
--- what stands behind the words of the play
-abbrev pub behind_play : Play → List ℕ → List ℕ
-behind_play (Cycle task now input) text = behind_word (behind_word (behind_word text))
-behind_play _ text = behind_word (behind_word text)
-
-unfoldable pub answer_in : Play → List ℕ → Option Answer
-answer_in play text = answer_of (front_word (behind_play play text)) (behind_word (behind_play play text))
-
-unfoldable pub entry_in : List Play → List ℕ → Option Entry
-entry_in plays line = do
-  version ← number_in (front_word line)
-  number ← number_in (front_word (behind_word line))
-  play ← play_numbered plays number
-  answer ← answer_in play (behind_word (behind_word line))
-  Some (record { version = version; play = number; answer = answer })
+-- it holds of the line that is bad; want of memory tells nothing
+abbrev pub OnBad : JournalError → (ℕ → Type 0) → Type 0
+OnBad (Bad line) P = P line
+OnBad NoMemory P = Unit {0}

@@ -8,8 +8,9 @@ use Rattle.cycle_journal.specs.declared.play.Play.TheVariants.{Cycle}
 use Rattle.cycle_journal.specs.declared.entry.Entry.{Entry}
 use Rattle.cycle_journal.specs.declared.entry.Answer.{Answer}
 use Rattle.cycle_journal.specs.declared.entry.Answer.TheVariants.{Done, Loaded}
-use Rattle.cycle_journal.specs.Lines.{ended}
-use Rattle.cycle_journal.specs.Journal.{play_numbered, image}
+use Rattle.plc_text.specs.Lines.{ended}
+use Rattle.cycle_journal.specs.Play.{play_numbered}
+use Rattle.cycle_journal.specs.Writing.{image}
 
 -- the version that is loaded after an entry
 abbrev pub version_after : ℕ → Answer → ℕ

@@ -1,25 +1,26 @@
 //! The entry that a line may be.
+
 ghost use Rattle.std.specs.Prelude.{◌≡◌, ℕ};
 ghost use Rattle.plc_text.specs.Code.{is_e17};
-ghost use Rattle.cycle_journal.specs.Reading.{Gives, done_in, ended_in, fault_in, refusal_of as refusal_of_parts, refusal_in, refused_in, answer_of, behind_play as behind_play_of, answer_in, entry_in};
+ghost use Rattle.cycle_journal.specs.Private.Candidate.{Gives, done_in, ended_in, fault_in, refusal_of as refusal_of_parts, refusal_in, refused_in, answer_of, behind_play as behind_play_of, answer_in, entry_in};
 
 use crate::entry::{Answer, Entry};
+use crate::fields::{code, fault_kind, kind, number, outputs};
 use crate::line_error::LineError;
 use crate::play::Play;
-use crate::words::{code, cut, fault_kind, kind, number, outputs};
 use crate::writing::play_numbered;
-use plc_text::{Code, Fault, FaultKind, Refusal, Text};
+use plc_text::{Code, Fault, FaultKind, Refusal, Text, split_field};
 use std::alloc::Global;
 
 /// A candidate for the entry of a line. An entry's own line gives the entry.
-#[tactic(auto, unfolding(crate::specs::Reading::entry_in))]
+#[tactic(auto, unfolding(crate::specs::Private::Candidate::entry_in))]
 pub fn candidate(alloc: Global, plays: &[Play], line: &str) -> Result<Entry, LineError>
     ensures { Gives result (entry_in plays.now line.now) }
 {
-    let (word, text) = cut(line);
-    let version = number(word)?;
-    let (word, text) = cut(text);
-    let play = number(word)?;
+    let (field, text) = split_field(line);
+    let version = number(field)?;
+    let (field, text) = split_field(text);
+    let play = number(field)?;
     match play_numbered(plays, play) {
         None => Err(LineError::Bad),
         Some(found) => {
@@ -33,28 +34,28 @@ pub fn candidate(alloc: Global, plays: &[Play], line: &str) -> Result<Entry, Lin
     }
 }
 
-/// The answer that stands behind the words of a play.
-#[tactic(auto, unfolding(crate::specs::Reading::answer_in))]
+/// The answer that stands behind the fields of a play.
+#[tactic(auto, unfolding(crate::specs::Private::Candidate::answer_in))]
 fn answer(alloc: Global, play: &Play, text: &str) -> Result<Answer, LineError>
     ensures { Gives result (answer_in play.now text.now) }
 {
-    let (word, rest) = cut(behind_play(play, text));
-    answer_of(alloc, word, rest)
+    let (field, rest) = split_field(behind_play(play, text));
+    answer_of(alloc, field, rest)
 }
 
-/// What stands behind the words of a play.
+/// What stands behind the fields of a play.
 fn behind_play<'a>(play: &Play, text: &'a str) -> &'a str
     ensures { result.now ≡ behind_play_of play.now text.now }
 {
-    let behind = cut(cut(text).1).1;
+    let behind = split_field(split_field(text).1).1;
     match play {
-        Play::Cycle { .. } => cut(behind).1,
+        Play::Cycle { .. } => split_field(behind).1,
         _ => behind,
     }
 }
 
 /// The answer of a word and what stands behind it.
-#[tactic(auto, unfolding(crate::specs::Reading::answer_of))]
+#[tactic(auto, unfolding(crate::specs::Private::Candidate::answer_of))]
 fn answer_of(alloc: Global, word: &str, text: &str) -> Result<Answer, LineError>
     ensures { Gives result (answer_of word.now text.now) }
 {
@@ -75,7 +76,7 @@ fn answer_of(alloc: Global, word: &str, text: &str) -> Result<Answer, LineError>
     }
 }
 
-#[tactic(auto, unfolding(crate::specs::Reading::ended_in))]
+#[tactic(auto, unfolding(crate::specs::Private::Candidate::ended_in))]
 fn ended(text: &str) -> Result<Answer, LineError>
     ensures { Gives result (ended_in text.now) }
 {
@@ -85,27 +86,27 @@ fn ended(text: &str) -> Result<Answer, LineError>
     done(text)
 }
 
-#[tactic(auto, unfolding(crate::specs::Reading::done_in))]
+#[tactic(auto, unfolding(crate::specs::Private::Candidate::done_in))]
 fn done(text: &str) -> Result<Answer, LineError>
     ensures { Gives result (done_in text.now) }
 {
-    let (word, rest) = cut(text);
-    let ticks = number(word)?;
+    let (field, rest) = split_field(text);
+    let ticks = number(field)?;
     let outputs = outputs(rest)?;
     Ok(Answer::Done { ticks, outputs })
 }
 
-#[tactic(auto, unfolding(crate::specs::Reading::fault_in))]
+#[tactic(auto, unfolding(crate::specs::Private::Candidate::fault_in))]
 fn fault(text: &str) -> Result<Answer, LineError>
     ensures { Gives result (fault_in text.now) }
 {
-    let (word, rest) = cut(text);
-    let kind = fault_kind(word)?;
+    let (field, rest) = split_field(text);
+    let kind = fault_kind(field)?;
     let line = number(rest)?;
     Ok(Answer::Fault(Fault { kind, line }))
 }
 
-#[tactic(auto, unfolding(crate::specs::Reading::refused_in))]
+#[tactic(auto, unfolding(crate::specs::Private::Candidate::refused_in))]
 fn refused(alloc: Global, text: &str) -> Result<Answer, LineError>
     ensures { Gives result (refused_in text.now) }
 {
@@ -116,22 +117,22 @@ fn refused(alloc: Global, text: &str) -> Result<Answer, LineError>
     Ok(Answer::Refused(refusal))
 }
 
-#[tactic(auto, unfolding(crate::specs::Reading::refusal_in))]
+#[tactic(auto, unfolding(crate::specs::Private::Candidate::refusal_in))]
 fn refusal(alloc: Global, text: &str) -> Result<Refusal, LineError>
     ensures { Gives result (refusal_in text.now) }
 {
-    let (word, text) = cut(text);
-    let code = code(word)?;
-    let (declaration, text) = cut(text);
-    let (word, text) = cut(text);
-    let line = number(word)?;
+    let (field, text) = split_field(text);
+    let code = code(field)?;
+    let (declaration, text) = split_field(text);
+    let (field, text) = split_field(text);
+    let line = number(field)?;
     let kind = kind(text)?;
     let declaration = Text::copy(alloc, declaration)?;
     refusal_of(code, declaration, line, kind)
 }
 
 /// The refusal of these parts, which has a kind of fault exactly at E17.
-#[tactic(auto, unfolding(crate::specs::Reading::refusal_of))]
+#[tactic(auto, unfolding(crate::specs::Private::Candidate::refusal_of))]
 fn refusal_of(
     code: Code,
     declaration: Text,

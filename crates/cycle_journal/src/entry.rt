@@ -1,3 +1,5 @@
+//! The entries of a journal.
+
 use crate::outputs::Outputs;
 use plc_text::{Fault, Refusal};
 
@@ -6,11 +8,12 @@ use plc_text::{Fault, Refusal};
 pub enum CycleReply {
     /// The cycle ended.
     Done {
-        /// The steps that it took.
+        /// The ticks that it spent.
         ticks: u32,
-        /// The output bytes up to the last that a variable shows.
+        /// The outputs at its end.
         outputs: Outputs,
     },
+    /// The cycle stopped at a fault, and changed nothing.
     Fault(Fault),
 }
 
@@ -19,31 +22,32 @@ pub enum CycleReply {
 pub enum Answer {
     /// The cycle ended.
     Done {
-        /// The steps that it took.
+        /// The ticks that it spent.
         ticks: u32,
-        /// The output bytes up to the last that a variable shows.
+        /// The outputs at its end.
         outputs: Outputs,
     },
-    /// The cycle faulted.
+    /// The cycle stopped at a fault, and changed nothing. Its task is held from now on.
     Fault(Fault),
-    /// The task is held.
+    /// The task of the cycle is held, so nothing ran.
     Held,
-    /// The loaded version has no such task. The number is the version whose loading removed it, 0 for none.
+    /// The loaded version has no task of the play's name. The number is that of the version whose loading removed it
+    /// last, 0 where no version so far had it.
     NoTask(u32),
-    /// The change is loaded, as the version of this number.
+    /// The source is loaded, as the version of this number.
     Loaded(u32),
-    /// The change is refused.
+    /// The source is refused, and nothing changed.
     Refused(Refusal),
-    /// The change found no memory.
+    /// The change found no memory, and nothing changed.
     RefusedMemory,
-    /// The task is released.
+    /// The task of the reset is not held from now on.
     Released,
 }
 
-/// One line of the journal.
+/// One line of the journal: a play and its answer.
 #[derive(Debug, Drop, PartialEq, Eq)]
 pub struct Entry {
-    /// The version loaded when the entry was made.
+    /// The number of the version that was loaded when the entry was made, from 1.
     pub version: u32,
     /// The play's number, from 1.
     pub play: u32,

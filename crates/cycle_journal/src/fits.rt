@@ -1,12 +1,16 @@
 //! Whether an entry is one for the plays.
-ghost use Rattle.std.specs.Prelude.{◌≡◌, ◌↔◌, IsTrue};
-ghost use Rattle.cycle_journal.specs.Journal.{may_answer as may_answer_of, is_declaration as is_declaration_of, FitsAnswer, FitsEntry};
+
+ghost use Rattle.std.specs.Prelude.{◌≡◌, ◌↔◌, ◌&&◌, not, IsTrue};
+ghost use Rattle.plc_text.specs.Words.{is_upper_word as is_upper_word_of};
+ghost use Rattle.st_tree.specs.Terminal.{is_keyword as is_keyword_of};
+ghost use Rattle.cycle_journal.specs.Fits.{may_answer as may_answer_of, is_declaration as is_declaration_of, FitsAnswer, FitsEntry};
 
 use crate::entry::{Answer, Entry};
-use crate::names::is_name;
 use crate::outputs::OUTPUT_LIMIT;
 use crate::play::Play;
 use crate::writing::play_numbered;
+use plc_text::is_upper_word;
+use st_tree::is_keyword;
 
 /// Whether the entry is one for these plays.
 pub fn fits(plays: &[Play], entry: &Entry) -> bool
@@ -63,5 +67,11 @@ fn fits_answer(version: u32, answer: &Answer) -> bool
 fn is_declaration(text: &str) -> bool
     ensures { result ≡ is_declaration_of text.now }
 {
-    text == "-" || is_name(text.as_bytes())
+    text == "-" || is_upper_name(text.as_bytes())
+}
+
+fn is_upper_name(text: &[u8]) -> bool
+    ensures { result ≡ (is_upper_word_of text.now && not (is_keyword_of text.now)) }
+{
+    is_upper_word(text) && !is_keyword(text)
 }

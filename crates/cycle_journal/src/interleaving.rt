@@ -1,4 +1,5 @@
 //! Laws of the orders in which entries may stand.
+
 ghost use Rattle.std.specs.Prelude.{◌≡◌, ℕ, ◌+◌, ◌<◌, ◌≤◌, List, [], ◌∷◌, length};
 ghost use Rattle.std.specs.List.{filter};
 ghost use Rattle.cycle_journal.specs.declared.entry.Entry.{Entry};

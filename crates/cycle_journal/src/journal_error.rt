@@ -1,3 +1,5 @@
+//! Why a text gave no journal.
+
 ghost use Rattle.std.specs.Prelude.{◌≡◌};
 ghost use Rattle.cycle_journal.specs.declared.journal_error.JournalError.TheVariants.{NoMemory as no_memory};
 

@@ -3,24 +3,21 @@
 
 mod candidate;
 mod entry;
+mod fields;
 mod fits;
 mod interleaving;
 mod journal_error;
 mod line_error;
-mod lines;
-mod names;
 mod outputs;
 mod play;
 mod reading;
 #[cfg(test)]
 mod tests;
-mod words;
 mod writing;
 
 pub use entry::{Answer, CycleReply, Entry};
 pub use interleaving::interleaving_laws;
 pub use journal_error::JournalError;
-pub use lines::Lines;
 pub use outputs::Outputs;
 pub use play::{Play, are_named};
 pub use reading::{one_journal, read_journal};

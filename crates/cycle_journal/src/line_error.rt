@@ -1,3 +1,5 @@
+//! Why a line gave no entry.
+
 ghost use Rattle.std.specs.Prelude.{◌≡◌};
 ghost use Rattle.cycle_journal.specs.declared.line_error.LineError.TheVariants.{NoMemory as no_memory};
 

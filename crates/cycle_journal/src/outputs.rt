@@ -1,30 +1,39 @@
+//! The output bytes of a cycle.
+
 ghost use Rattle.std.specs.Prelude.{◌≡◌, ℕ, ◌≤◌, ◌<◌, ◌↔◌, [], length, IsTrue};
 ghost use Rattle.std.specs.List.{AllByRecursion};
 ghost use Rattle.std.specs.Prelude.{nat_eq};
 ghost use Rattle.std.specs.Cmp.{partial_equiv_from_equiv};
 ghost use Rattle.std.specs.Cmp.Lexicographic.{pointwise, nat_list_eq_equiv};
-ghost use Rattle.cycle_journal.specs.Reading.{hex_in};
+ghost use Rattle.cycle_journal.specs.Private.Candidate.{hex_in};
 
 use std::marker::Model;
 
 /// How many output bytes there may be.
 pub const OUTPUT_LIMIT: usize = 256;
 
-/// The output bytes of a cycle, 256 at most. They stand in room of their own, so they take no memory.
+/// The output bytes of a cycle, from byte 0 of the output image on, 256 at most. They stand in room of their own, so they
+/// take no memory.
 #[derive(Debug, Drop)]
 pub struct Outputs {
     bytes: [u8; 256],
     len: u16,
 }
 
+// The bytes behind those that stand are 0, so equal outputs are equal values, byte for byte.
 impl Model for Outputs {
-    ghost use Rattle.std.specs.Prelude.{ℕ, List, ◌≤◌, take};
+    ghost use Rattle.std.specs.Prelude.{ℕ, ◌-◌, List, ◌++◌, length, take, replicate};
+    ghost use Rattle.cycle_journal.specs.Outputs.{IsPadded, len_again, room_again};
 
     ghost Value = { List ℕ };
 
     ghost view = { λ o. take o.len o.bytes };
 
-    ghost invariant = { λ o. o.len ≤ 256 };
+    ghost invariant = { λ o. IsPadded o.bytes o.len };
+
+    ghost inverse = { λ bytes. record { bytes = bytes ++ replicate (256 - length bytes) 0; len = length bytes } };
+
+    ghost inverse_ok = { λ o h i. record { bytes = room_again o.bytes o.len h i; len = len_again o.bytes o.len h i } };
 }
 
 impl Outputs {
@@ -52,8 +61,8 @@ impl Outputs {
     }
 
     /// The bytes of pairs of hexadecimal digits in either case, if they are such pairs and not too many.
-    #[tactic(auto, unfolding(crate::specs::Reading::hex_in))]
-    pub fn from_hex(digits: &str) -> Option<Outputs>
+    #[tactic(auto, unfolding(crate::specs::Private::Candidate::hex_in))]
+    pub(crate) fn from_hex(digits: &str) -> Option<Outputs>
         ensures { result ≡ hex_in digits.now }
     {
         let len = digits.len() / 2;

@@ -1,26 +1,30 @@
+//! The plays of a scenario.
+
 ghost use Rattle.std.specs.Prelude.{◌≡◌, ◌↔◌, IsTrue};
-ghost use Rattle.cycle_journal.specs.Journal.{name_of, Named};
+ghost use Rattle.cycle_journal.specs.Play.{name_of, Named};
 
-use crate::names::is_name;
-use plc_text::{Items, Text};
+use plc_text::{Items, Text, is_upper_word};
 
-/// One step of the script: a cycle of a task, a change of the program, or a reset of a task. Plays are numbered from 1.
+/// A step of a scenario. Plays are numbered from 1.
 #[derive(Debug, Drop)]
 pub enum Play {
+    /// One cycle of a task.
     Cycle {
         /// The task's name, in upper case.
         task: Text,
         /// The moment, in milliseconds.
         now: u32,
-        /// The input bytes.
+        /// The input bytes, from byte 0 of the input image on.
         input: Items<u8>,
     },
+    /// A source is loaded in place of the running program.
     Change {
-        /// The change's name, in upper case.
+        /// The source's name, in upper case.
         name: Text,
-        /// The number of the source that is to be loaded.
+        /// The source's place in the scenario's table of sources, from 0.
         source: u32,
     },
+    /// A task that is held is released.
     Reset {
         /// The task's name, in upper case.
         task: Text,
@@ -28,7 +32,7 @@ pub enum Play {
 }
 
 impl Play {
-    /// The name of the task or of the change.
+    /// The name of its task, or of the source that it loads.
     pub fn name(&self) -> &str
         ensures { result.now ≡ name_of self.now }
     {
@@ -39,9 +43,11 @@ impl Play {
     }
 }
 
-/// Whether the plays have names in upper case.
+/// Whether each play's name is a word in upper case. It may be a keyword.
 pub fn are_named(plays: &[Play]) -> bool
     ensures { IsTrue result ↔ Named plays.now }
 {
-    plays.iter().all(|play| is_name(play.name().as_bytes()))
+    plays
+        .iter()
+        .all(|play| is_upper_word(play.name().as_bytes()))
 }

@@ -1,20 +1,24 @@
+//! The journal that a text is.
+
 ghost use Rattle.std.specs.Prelude.{◌≡◌, ◌↔◌, ℕ, ◌+◌, ◌<◌, ◌≤◌, ◌^◌, List, [], ◌∷◌, ◌++◌, length, codes, IsTrue, MatchBool, IfOk, IfErr};
 ghost use Rattle.cycle_journal.specs.declared.entry.Entry.{Entry as one_entry};
 ghost use Rattle.cycle_journal.specs.declared.play.Play.{Play as one_play};
-ghost use Rattle.cycle_journal.specs.Journal.{Fits, FitsEntry, Named, entry_text, journal_text};
-ghost use Rattle.cycle_journal.specs.Lines.{lines_of};
-ghost use Rattle.cycle_journal.specs.Reader.{OnBad, NoJournal, FirstBad, end_line, OnBadLine, IsNoEntry, Stops, AreEntries};
+ghost use Rattle.cycle_journal.specs.Fits.{Fits, FitsEntry};
+ghost use Rattle.cycle_journal.specs.Play.{Named};
+ghost use Rattle.cycle_journal.specs.Writing.{entry_text, journal_text};
+ghost use Rattle.plc_text.specs.Lines.{lines_of};
+ghost use Rattle.cycle_journal.specs.Reading.{OnBad, NoJournal, FirstBad};
+ghost use Rattle.cycle_journal.specs.Private.Reading.{end_line, OnBadLine, IsNoEntry, Stops, AreEntries};
 
 use crate::candidate::candidate;
 use crate::entry::Entry;
 use crate::fits::fits;
 use crate::journal_error::JournalError;
 use crate::line_error::LineError;
-use crate::lines::Lines;
 use crate::play::Play;
 use crate::writing::push_entry;
 use itoa::Buffer;
-use plc_text::{Items, NoMemory, Text};
+use plc_text::{Items, Lines, NoMemory, Text};
 use std::alloc::Global;
 
 /// The journal that the text is. The plays have names in upper case, and the text is so short that its lines can be counted.

@@ -1,3 +1,5 @@
+//! Journals by example: their texts, and texts that are none.
+
 use crate::{Answer, Entry, JournalError, Outputs, Play, are_named, journal_text, read_journal};
 use plc_text::{Code, Fault, FaultKind, Items, NoMemory, Refusal, Text};
 use std::alloc::{AllocError, Global};
@@ -206,6 +208,7 @@ fn takes_one_spelling(rt: HostRuntime) -> Result<(), Fail> {
         "1 3 change _STEP_2 loaded 3",
         "4294967295 3 change _STEP_2 loaded 4294967296",
         "1 3 change _STEP_2 refused E05 motor 1",
+        "1 3 change _STEP_2 refused E05 PROGRAM 1",
         "1 3 change _STEP_2 refused E05 - 1 Index",
         "1 3 change _STEP_2 refused E17 - 1",
         "1 3 change _STEP_2 refused E18 - 1",

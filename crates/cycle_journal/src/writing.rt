@@ -1,8 +1,11 @@
+//! The text of a journal.
+
 ghost use Rattle.std.specs.Prelude.{◌≡◌, ◌++◌, List, codes, decimal, IfOk, OnOk};
 ghost use Rattle.std.specs.List.{flat_map};
 ghost use Rattle.std.specs.Option.{option_copied};
-ghost use Rattle.cycle_journal.specs.Journal.{play_numbered as play_of_number, image, kind_text, answer_text, play_text, entry_text, journal_text as journal_text_of};
-ghost use Rattle.cycle_journal.specs.Lines.{ended};
+ghost use Rattle.cycle_journal.specs.Play.{play_numbered as play_of_number};
+ghost use Rattle.cycle_journal.specs.Writing.{image, kind_text, answer_text, play_text, entry_text, journal_text as journal_text_of};
+ghost use Rattle.plc_text.specs.Lines.{ended};
 
 use crate::entry::{Answer, Entry};
 use crate::play::Play;

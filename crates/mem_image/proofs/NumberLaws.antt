@@ -9,9 +9,9 @@ use Rattle.std.proofs.lemmas.Bool.{cases_lt}
 use Rattle.std.proofs.lemmas.Int.{ints, to_z-of_z}
 use Rattle.st_types.specs.declared.elem.Elem.{Elem}
 use Rattle.st_types.specs.declared.elem.Elem.TheVariants as kind
-use Rattle.st_types.specs.Kinds.{bits, bytes, is_signed}
+use Rattle.st_types.specs.Elem.{bits, bytes, is_signed}
 use Rattle.plc_num.specs.Wrapping.{wrapped}
-use Rattle.mem_image.specs.Images.{low_first, value_at, bytes_of}
+use Rattle.mem_image.specs.Image.{low_first, value_at, bytes_of}
 
 -- a number within the kind is its own value, where the kind has no sign
 pub plain : (e : Elem) (n : ℕ) → is_signed e ≡ false → n < 2 ^ bits e → wrapped e (pos n) ≡ pos n

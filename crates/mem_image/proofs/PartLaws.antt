@@ -3,7 +3,7 @@ use Rattle.std.proofs.Common.{◌≡◌, ℕ, ◌+◌, ◌-◌, ◌≤◌, List,
 use Rattle.std.specs.Prelude.{slice_range}
 use Rattle.std.specs.List.{copy_within}
 use Rattle.std.proofs.lemmas.List.{append_assoc, drop-drop, drop-append-le, drop-take, drop_at, length-take-le, take-append-le, take-take, take_all, drop-replicate, take-replicate}
-use Rattle.mem_image.specs.Images.{replaced}
+use Rattle.mem_image.specs.Image.{replaced}
 use Rattle.mem_image.specs.Laws.{AreApart}
 
 -- with the part at the offset, uncut

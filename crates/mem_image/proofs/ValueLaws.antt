@@ -6,10 +6,10 @@ use Rattle.std.proofs.lemmas.Int.{ints}
 use Rattle.std.proofs.Math.Nat.{mod-lt, pow-succ', one-le-pow}
 use Rattle.st_types.specs.declared.elem.Elem.{Elem}
 use Rattle.st_types.specs.declared.elem.Elem.TheVariants as kind
-use Rattle.st_types.specs.Kinds.{bytes}
-use Rattle.st_types.specs.Ranges.{Fits}
+use Rattle.st_types.specs.Elem.{bytes}
+use Rattle.st_types.specs.Range.{Fits}
 use Rattle.plc_num.specs.Wrapping.{wrapped}
-use Rattle.mem_image.specs.Images.{low_first, value_at, replaced, bytes_of, written}
+use Rattle.mem_image.specs.Image.{low_first, value_at, replaced, bytes_of, written}
 use Rattle.mem_image.specs.Laws.{AreApart, IsSpelling}
 use Rattle.plc_num.proofs.WrappingLaws.{rem_turns, wrapped-wraps, Wraps-unique}
 use Rattle.mem_image.proofs.PartLaws.{holds, leaves, inside, length-range, range_of_range, range_of_zeros}

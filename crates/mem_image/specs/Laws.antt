@@ -1,9 +1,9 @@
 -- The laws of reads, writes and copies.
 use Rattle.std.specs.Prelude.{◌≡◌, ℕ, ◌+◌, ◌^◌, ◌<◌, ◌≤◌, ℤ, pos, ◌+ℤ◌, ◌*ℤ◌, ◌⊎◌, ◌↔◌, All, List, length, replicate, slice_range}
 use Rattle.st_types.specs.declared.elem.Elem.{Elem}
-use Rattle.st_types.specs.Kinds.{bytes}
-use Rattle.st_types.specs.Ranges.{Fits}
-use Rattle.mem_image.specs.Images.{low_first, value_at, replaced, bytes_of, written}
+use Rattle.st_types.specs.Elem.{bytes}
+use Rattle.st_types.specs.Range.{Fits}
+use Rattle.mem_image.specs.Image.{low_first, value_at, replaced, bytes_of, written}
 
 -- the m bytes from i on and the n bytes from j on share none
 abbrev pub AreApart : ℕ → ℕ → ℕ → ℕ → Type 0

@@ -1,4 +1,4 @@
-pub mod ImageLending
-pub mod Images
+pub mod Image
+pub mod ImageLoans
+pub mod RegionsLoans
 pub mod Laws
-pub mod PartLending

@@ -1,9 +1,11 @@
+//! Images: the bytes that hold a program's values.
+
 ghost use Rattle.std.specs.Prelude.{◌≡◌, ◌+◌, ◌<◌, ◌≤◌, ◌↔◌, [], length, replicate, slice_range, All, IsTrue, IfOk};
 ghost use Rattle.std.specs.Borrow.{sem};
-ghost use Rattle.st_types.specs.Kinds as kinds;
-ghost use Rattle.st_types.specs.Ranges.{Fits};
-ghost use Rattle.mem_image.specs.Images.{replaced, value_at, written};
-ghost use Rattle.mem_image.specs.PartLending.{LendsPart};
+ghost use Rattle.st_types.specs.Elem as kinds;
+ghost use Rattle.st_types.specs.Range.{Fits};
+ghost use Rattle.mem_image.specs.Image.{replaced, value_at, written};
+ghost use Rattle.mem_image.specs.ImageLoans.{LendsPart};
 
 use crate::words::{low_1, low_2, low_4, low_8, value};
 use plc_text::NoMemory;
@@ -47,7 +49,6 @@ impl Image {
     }
 
     #[inline]
-
     pub fn is_empty(&self) -> bool
         ensures { IsTrue result ↔ (self.now ≡ []) }
     {

@@ -1,3 +1,5 @@
+//! What follows from the definitions of reads, writes and copies.
+
 ghost use Rattle.mem_image.specs.Laws.{ReadsBack, LeavesValues, ReadsWithin, ReadsZero, SpellsOnce, KeepsLength, HoldsPart, LeavesParts, CopiesValues};
 
 /// What is written is read back, and no other value changes.

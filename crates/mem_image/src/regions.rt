@@ -1,7 +1,9 @@
+//! Tables of images by region.
+
 ghost use Rattle.std.specs.Prelude.{◌≡◌, ◌<◌, ◌↔◌, [], length, replicate, slice_get, slice_set, Some, None, IsTrue, IfOk};
 ghost use Rattle.std.specs.Option.{option_copied, option_copied_mut};
 ghost use Rattle.std.specs.Borrow.{sem};
-ghost use Rattle.mem_image.specs.ImageLending.{LendsImage};
+ghost use Rattle.mem_image.specs.RegionsLoans.{LendsImage};
 
 use crate::image::Image;
 use plc_text::NoMemory;
@@ -47,7 +49,6 @@ impl Regions {
     }
 
     #[inline]
-
     pub fn is_empty(&self) -> bool
         ensures { IsTrue result ↔ (self.now ≡ []) }
     {

@@ -1,3 +1,5 @@
+//! Images and tables of them by example.
+
 use crate::{Image, Regions};
 use st_types::{Elem, fits};
 use std::test::Fail;

@@ -1,7 +1,9 @@
+//! Values and their bytes, the low one first.
+
 ghost use Rattle.std.specs.Prelude.{◌≡◌, ◌+◌, ◌^◌, ◌≤◌, pos, length, slice_range};
 ghost use Rattle.std.specs.Int.{int_rem_euclid};
-ghost use Rattle.st_types.specs.Kinds as kinds;
-ghost use Rattle.mem_image.specs.Images.{low_first, value_at};
+ghost use Rattle.st_types.specs.Elem as kinds;
+ghost use Rattle.mem_image.specs.Image.{low_first, value_at};
 
 use st_types::Elem;
 

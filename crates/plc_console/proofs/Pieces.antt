@@ -14,7 +14,7 @@ use Rattle.st_reader.specs.Words.{is_digit, is_number, number}
 use Rattle.plc_console.specs.Among.{IsAmong}
 use Rattle.plc_console.specs.Scenario.{IsPlain, IsSourceLine}
 use Rattle.plc_console.specs.ScenarioReading.{HasParts}
-use Rattle.cycle_journal.proofs.LineLaws.{HoldsNo, HoldsNo-from_places}
+use Rattle.plc_text.proofs.LineLaws.{HoldsNo, HoldsNo-from_places}
 use Rattle.plc_console.proofs.PlayLines.{regrouped}
 
 -- plain bytes are text

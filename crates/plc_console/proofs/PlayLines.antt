@@ -10,7 +10,7 @@ use Rattle.st_reader.specs.Words.{is_letter, is_word, is_word_character, is_numb
 use Rattle.plc_console.specs.Scenario.{IsPlayLine, IsSourceLine}
 use Rattle.plc_console.specs.ScenarioReading.{HasParts}
 use Rattle.plc_console.proofs.Parts.{same_parts}
-use Rattle.cycle_journal.proofs.LineLaws.{HoldsNo}
+use Rattle.plc_text.proofs.LineLaws.{HoldsNo}
 
 no_space_letter : (b : ℕ) → is_letter b ≡ true → b ≢ 32
 no_space_letter b h e = let k = subst (λ (x : ℕ). is_letter x ≡ true) e h in cc

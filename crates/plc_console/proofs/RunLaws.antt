@@ -7,7 +7,7 @@ use Rattle.cycle_journal.specs.declared.play.Play.{Play}
 use Rattle.cycle_journal.specs.declared.entry.Entry.{Entry}
 use Rattle.plc_console.specs.declared.program.Program.{Program}
 use Rattle.plc_console.specs.Meaning.{Store}
-use Rattle.cycle_journal.specs.Journal.{play_numbered}
+use Rattle.cycle_journal.specs.Play.{play_numbered}
 use Rattle.plc_console.specs.OneThread.{One, Run}
 
 -- the entries, one after another from a store up to another

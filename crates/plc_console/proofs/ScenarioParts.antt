@@ -6,8 +6,8 @@ use Rattle.std.proofs.lemmas.List.{append-nil}
 use Rattle.std.proofs.lemmas.List.Concat.{flat_map-append}
 use Rattle.plc_console.specs.declared.scenario.Scenario.{Scenario}
 use Rattle.cycle_journal.specs.declared.play.Play.{Play}
-use Rattle.cycle_journal.specs.Journal.{name_of}
-use Rattle.cycle_journal.specs.Lines.{lines_of, text_of, ended}
+use Rattle.cycle_journal.specs.Play.{name_of}
+use Rattle.plc_text.specs.Lines.{lines_of, text_of, ended}
 use Rattle.plc_console.specs.Among.{IsAmong, AreDistinct}
 use Rattle.plc_console.specs.Scenario.{IsPlain, IsSourceLine, IsPlayLine, ArePlayLines, IsScenario}
 use Rattle.plc_console.specs.ScenarioReading.{IsSource, ArePlays, AreEmpty, SeesName}

@@ -5,10 +5,10 @@ use Rattle.cycle_journal.specs.declared.entry.Entry.{Entry}
 use Rattle.plc_console.specs.declared.program.Program.{Program}
 use Rattle.plc_console.specs.declared.plc.Status.{Status}
 use Rattle.plc_console.specs.declared.plc.Status.TheVariants.{Done, Refused, Usage, Script, ReadFault, WriteFault, NoMemory, TooLong}
-use Rattle.cycle_journal.specs.Lines.{ended}
+use Rattle.plc_text.specs.Lines.{ended}
 use Rattle.plc_console.specs.Scenario.{IsScenario}
 use Rattle.plc_console.specs.Accepted.{Accepted}
-use Rattle.cycle_journal.specs.Journal.{journal_text}
+use Rattle.cycle_journal.specs.Writing.{journal_text}
 use Rattle.plc_console.specs.OneThread.{OneThread}
 use Rattle.cycle_journal.specs.Interleaving.{InOrder}
 

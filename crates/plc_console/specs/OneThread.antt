@@ -8,7 +8,7 @@ use Rattle.cycle_journal.specs.declared.entry.Answer.TheVariants.{Done, NoTask}
 use Rattle.plc_console.specs.declared.program.Program.{Program}
 use Rattle.plc_console.specs.Accepted.{Accepted}
 use Rattle.plc_console.specs.Meaning.{Store, start, Cycle}
-use Rattle.cycle_journal.specs.Journal.{play_numbered, name_of}
+use Rattle.cycle_journal.specs.Play.{play_numbered, name_of}
 
 -- From this store the program may give this answer to the play, which is a cycle, and go on with the next store.
 abbrev pub One : Program → Store → Play → Answer → Store → Type 0

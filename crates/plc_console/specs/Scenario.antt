@@ -5,9 +5,9 @@ use Rattle.plc_text.specs.Text.{folded}
 use Rattle.plc_console.specs.declared.scenario.Scenario.{Scenario}
 use Rattle.cycle_journal.specs.declared.play.Play.{Play}
 use Rattle.cycle_journal.specs.declared.play.Play.TheVariants.{Cycle}
-use Rattle.cycle_journal.specs.Journal.{name_of}
+use Rattle.cycle_journal.specs.Play.{name_of}
 use Rattle.st_reader.specs.Words.{is_word, is_number, number}
-use Rattle.cycle_journal.specs.Lines.{lines_of, text_of}
+use Rattle.plc_text.specs.Lines.{lines_of, text_of}
 use Rattle.plc_console.specs.Among.{IsAmong}
 
 -- ASCII without CR

@@ -2,8 +2,8 @@
 use Rattle.std.specs.Prelude.{◌≡◌, ◌≢◌, ◌⊎◌, ℕ, ◌<◌, ◌≤◌, List, [], ◌∷◌, ◌++◌, length, codes, replicate}
 use Rattle.std.specs.List.{AllByRecursion}
 use Rattle.cycle_journal.specs.declared.play.Play.{Play}
-use Rattle.cycle_journal.specs.Journal.{name_of}
-use Rattle.cycle_journal.specs.Lines.{text_of}
+use Rattle.cycle_journal.specs.Play.{name_of}
+use Rattle.plc_text.specs.Lines.{text_of}
 use Rattle.plc_console.specs.Scenario.{IsSourceLine, ArePlayLines}
 use Rattle.plc_console.specs.Among.{IsAmong}
 

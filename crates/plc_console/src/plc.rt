@@ -137,8 +137,13 @@ fn respond<K: Sink>(alloc: Global, bytes: &[u8], out: &mut K) -> Status
     }
 }
 
-/// Reads a scenario, runs it on one thread, and writes the journal.
-fn play<S: Source, K: Sink>(alloc: Global, src: &mut S, out: &mut K) -> Status
+/// What the command `play` does: it reads a scenario from the source, runs it on one thread, and writes the journal to the
+/// sink. It starts no thread and never waits, so it returns on every input.
+///
+/// `ReadFault` and `WriteFault` have a failed read or write as their cause, which the source or the sink has counted.
+/// `NoMemory` may come wherever memory is taken. Where the source and the sink tell their bytes, the other answers are
+/// exact.
+pub fn play<S: Source, K: Sink>(alloc: Global, src: &mut S, out: &mut K) -> Status
     ensures too_long { WhereTold (S.left src.old) (S.left src.new) (λ bytes rest. (result ≡ Status.TooLong) ↔ (byte_limit < length bytes - length rest)) }
     ensures read_fault { result ≡ Status.ReadFault → Rose (S.faults src.old) (S.faults src.new) }
     ensures write_fault { result ≡ Status.WriteFault → Rose (K.faults out.old) (K.faults out.new) }

@@ -3,14 +3,14 @@ ghost use Rattle.std.specs.List.{AllByRecursion};
 ghost use Rattle.plc_console.specs.declared.scenario.Scenario.{Scenario};
 ghost use Rattle.cycle_journal.specs.declared.play.Play.{Play};
 ghost use Rattle.st_reader.specs.Words as words;
-ghost use Rattle.cycle_journal.specs.Lines.{lines_of};
+ghost use Rattle.plc_text.specs.Lines.{lines_of};
 ghost use Rattle.plc_console.specs.Among.{IsAmong};
 ghost use Rattle.plc_console.specs.Scenario.{IsPlain, IsPlayLine, IsScenario};
 ghost use Rattle.plc_console.specs.ScenarioReading.{IsSource, ArePlays, AreEmpty, HasParts, SeesName};
 ghost use Rattle.plc_console.specs.declared.scenario.ScenarioError.TheVariants as errors;
 
-use cycle_journal::{Lines, Play};
-use plc_text::{Items, NoMemory, Text};
+use cycle_journal::Play;
+use plc_text::{Items, Lines, NoMemory, Text};
 use st_reader::words::{is_number, is_word};
 use std::alloc::{AllocError, Global};
 use std::str;

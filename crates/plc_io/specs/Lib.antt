@@ -3,5 +3,5 @@ pub mod Told
 pub mod Source
 pub mod Sink
 pub mod Reading
-pub mod Calls
 pub mod Memory
+pub mod Private

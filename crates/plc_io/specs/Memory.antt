@@ -1,24 +1,48 @@
--- A source or a sink in memory, as contracts see it.
-use Rattle.std.specs.Prelude.{◌≡◌, List, ℕ, Contains}
+-- Sources and sinks in memory, as contracts see them.
+use Rattle.std.specs.Prelude.{◌≡◌, ◌⊎◌, List, ℕ, length, Contains}
 use Rattle.plc_io.specs.Faults.{next_count}
 
-pub record Memory : Type 0 where
-  -- the bytes left or taken
-  pub bytes : List ℕ
-  -- the largest piece that a call gives or takes, as it was set
+pub record SourceMemory : Type 0 where
+  -- the bytes still to come
+  pub left : List ℕ
+  -- the largest piece that a read gives, as it was set
   pub piece : ℕ
-  -- the numbers of the calls that are to fail, from 1 on
+  -- the numbers of the reads that are to fail, from 1 on
   pub failing : List ℕ
-  -- the calls made so far, and those that failed
+  -- the reads made so far, and those that failed
   pub made : ℕ
   pub faults : ℕ
 
--- the next call is one that is to fail
-abbrev pub FailsNext : Memory → Type 0
-FailsNext memory = Contains memory.failing (next_count memory.made)
+pub record SinkMemory : Type 0 where
+  -- the bytes taken so far
+  pub taken : List ℕ
+  -- how many bytes there is room for
+  pub room : ℕ
+  -- the largest piece that a write takes, as it was set
+  pub piece : ℕ
+  -- the numbers of the writes that are to fail, from 1 on
+  pub failing : List ℕ
+  -- the writes made so far, and those that failed
+  pub made : ℕ
+  pub faults : ℕ
 
--- a call is counted, and leaves what was set
-pub record CountsCall (old new : Memory) : Type 0 where
+-- the next read is one that is to fail
+abbrev pub FailsNextRead : SourceMemory → Type 0
+FailsNextRead source = Contains source.failing (next_count source.made)
+
+-- the next write is one that is to fail, or no room is left
+abbrev pub FailsNextWrite : SinkMemory → Type 0
+FailsNextWrite sink = Contains sink.failing (next_count sink.made) ⊎ (length sink.taken ≡ sink.room)
+
+-- a read is counted, and leaves what was set
+pub record CountsRead (old new : SourceMemory) : Type 0 where
+  pub piece : new.piece ≡ old.piece
+  pub failing : new.failing ≡ old.failing
+  pub made : new.made ≡ next_count old.made
+
+-- a write is counted, and leaves what was set
+pub record CountsWrite (old new : SinkMemory) : Type 0 where
+  pub room : new.room ≡ old.room
   pub piece : new.piece ≡ old.piece
   pub failing : new.failing ≡ old.failing
   pub made : new.made ≡ next_count old.made

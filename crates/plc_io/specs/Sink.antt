@@ -7,9 +7,9 @@ use Rattle.plc_io.specs.declared.sink.Took.TheVariants.{Bytes, Failed}
 
 -- A write appends the first bytes of the piece, or fails and appends none.
 -- `old` and `new` are the bytes taken before and after it.
-abbrev pub Writes : Option (List ℕ) → Option (List ℕ) → List ℕ → Took → Type 0
-Writes old new piece (Bytes n) = (1 ≤ n) × (n ≤ length piece) × Appends old new (take n piece)
-Writes old new piece Failed = Keeps old new
+abbrev pub WriteTakes : Option (List ℕ) → Option (List ℕ) → List ℕ → Took → Type 0
+WriteTakes old new piece (Bytes n) = (1 ≤ n) × (n ≤ length piece) × Appends old new (take n piece)
+WriteTakes old new piece Failed = Keeps old new
 
 -- a count of faults goes up exactly where the write failed
 abbrev pub CountsFailedWrite : Took → ℕ → ℕ → Type 0

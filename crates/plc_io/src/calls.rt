@@ -1,6 +1,6 @@
 // The calls of a source or a sink in memory, some of which are to fail.
 ghost use Rattle.std.specs.Prelude.{◌≡◌, ◌↔◌, ◌≤◌, IsTrue, Contains};
-ghost use Rattle.plc_io.specs.Calls.{after_call};
+ghost use Rattle.plc_io.specs.Private.Calls.{after_call};
 ghost use Rattle.plc_io.specs.Faults.{next_count};
 
 /// Counts calls, and the faults among them, both up to `u64::MAX`.

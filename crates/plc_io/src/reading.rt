@@ -62,8 +62,9 @@ pub fn read_all<S: Source>(alloc: Global, src: &mut S, limit: u32) -> Result<Vec
     Ok(bytes)
 }
 
-// Apart from its caller, since a proof that sees a long literal count writes the whole list out.
-fn zeros(alloc: Global, count: usize) -> Result<Vec<u8>, AllocError>
+/// So many zeros.
+// Apart from its callers, since a proof that sees a long literal count writes the whole list out.
+pub(crate) fn zeros(alloc: Global, count: usize) -> Result<Vec<u8>, AllocError>
     ensures { IfOk result (λ v. vec_len v ≡ count) }
 {
     vec![in alloc; 0; count]

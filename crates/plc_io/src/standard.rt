@@ -1,8 +1,8 @@
 // Std's readers and writers as sources and sinks.
 ghost use Rattle.std.specs.Prelude.{◌≡◌, ◌<◌, ◌≤◌, ℕ, None, length};
 ghost use Rattle.plc_io.specs.Faults.{Rose};
-ghost use Rattle.plc_io.specs.Sink.{Writes, CountsFailedWrite};
-ghost use Rattle.plc_io.specs.Source.{Reads, CountsFailedRead};
+ghost use Rattle.plc_io.specs.Sink.{WriteTakes, CountsFailedWrite};
+ghost use Rattle.plc_io.specs.Source.{ReadGives, CountsFailedRead};
 
 use crate::sink::{Sink, Took};
 use crate::source::{Got, Source};
@@ -38,7 +38,7 @@ impl<R: Read> Source for StdSource<R> {
 
     // It hands on what the reader gives, unchanged, and counts the reader's errors.
     fn read(&mut self, buf: &mut [u8]) -> Got
-        ensures bytes { 0 < length buf.old → Reads (R.remaining self.old.reader) (R.remaining self.new.reader) buf.new result }
+        ensures bytes { 0 < length buf.old → ReadGives (R.remaining self.old.reader) (R.remaining self.new.reader) buf.new result }
         ensures cause { result ≡ Got.Failed → Rose self.old.faults self.new.faults }
         ensures later { self.old.faults ≤ self.new.faults }
         ensures counted { CountsFailedRead result self.old.faults self.new.faults }
@@ -87,7 +87,7 @@ impl<W: Write> Sink for StdSink<W> {
 
     // It hands on what the writer takes, and counts the writer's errors, and each time that it takes nothing of a piece.
     fn write(&mut self, bytes: &[u8]) -> Took
-        ensures bytes { 0 < length bytes.now → Writes (W.contents self.old.writer) (W.contents self.new.writer) bytes.now result }
+        ensures bytes { 0 < length bytes.now → WriteTakes (W.contents self.old.writer) (W.contents self.new.writer) bytes.now result }
         ensures cause { result ≡ Took.Failed → Rose self.old.faults self.new.faults }
         ensures later { self.old.faults ≤ self.new.faults }
         ensures counted { CountsFailedWrite result self.old.faults self.new.faults }

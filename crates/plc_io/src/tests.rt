@@ -41,7 +41,7 @@ fn copies_in_pieces(rt: HostRuntime) -> Result<(), Fail> {
     let alloc = rt.alloc();
     for (from_piece, to_piece) in [(1, 7), (7, 1), (0, 0), (1000, 1000)] {
         let mut src = source(alloc, from_piece, &[])?;
-        let mut out = MemSink::new(alloc, to_piece, Vec::new(alloc));
+        let mut out = MemSink::new(alloc, 20, to_piece, Vec::new(alloc))?;
         copy(alloc, &mut src, &mut out, 20)?;
         assert_eq!(rt;
             out.bytes(),
@@ -88,12 +88,23 @@ fn a_failed_read_leaves_the_rest(rt: HostRuntime) -> Result<(), Fail> {
 #[test]
 fn a_failed_write_says_what_was_sent(rt: HostRuntime) -> Result<(), Fail> {
     let alloc = rt.alloc();
-    let mut out = MemSink::new(alloc, 7, [2].to_vec(alloc)?);
+    let mut out = MemSink::new(alloc, 20, 7, [2].to_vec(alloc)?)?;
     assert_eq!(rt; write_all(&mut out, TEXT), Err(WriteFault { sent: 7 }));
     assert_eq!(rt; out.bytes(), b"twenty ".as_slice());
     assert_eq!(rt; out.faults(), 1);
     assert_eq!(rt; write_all(&mut out, b"!"), Ok(()));
     assert_eq!(rt; out.bytes(), b"twenty !".as_slice());
+    Ok(())
+}
+
+#[test]
+fn a_full_sink_fails(rt: HostRuntime) -> Result<(), Fail> {
+    let alloc = rt.alloc();
+    let mut out = MemSink::new(alloc, 10, 7, Vec::new(alloc))?;
+    assert_eq!(rt; write_all(&mut out, TEXT), Err(WriteFault { sent: 10 }));
+    assert_eq!(rt; out.bytes(), b"twenty byt".as_slice());
+    assert_eq!(rt; write_all(&mut out, b"!"), Err(WriteFault { sent: 0 }));
+    assert_eq!(rt; out.faults(), 2);
     Ok(())
 }
 

@@ -9,9 +9,9 @@ use Rattle.std.proofs.Math.Nat.{mod-lt, div-add-mod', mul-le-mul_right}
 use Rattle.std.proofs.lemmas.Nat.{and_le_l, or_lt, xor_lt}
 use Rattle.st_types.specs.declared.elem.Elem.{Elem}
 use Rattle.st_types.specs.declared.elem.Elem.TheVariants as kind
-use Rattle.st_types.specs.Kinds.{bits}
+use Rattle.st_types.specs.Elem.{bits}
 use Rattle.plc_num.specs.Wrapping.{Wraps, wrapped}
-use Rattle.plc_num.specs.Operations.{bit, HasBits, with_bits, value_of_bits, exclusive_or}
+use Rattle.plc_num.specs.Bits.{bit, HasBits, with_bits, value_of_bits, exclusive_or}
 use Rattle.plc_num.proofs.WrappingLaws.{wrapped-wraps, Wraps-unique}
 
 -- each bit of the complement within the width is the other

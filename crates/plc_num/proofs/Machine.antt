@@ -10,10 +10,10 @@ use Rattle.std.proofs.lemmas.Bool.{cases_lt}
 use Rattle.std.proofs.Math.Facts.{to_z-neg}
 use Rattle.st_types.specs.declared.elem.Elem.TheVariants as kind
 use Rattle.st_types.specs.declared.elem.Elem.{Elem}
-use Rattle.st_types.specs.Kinds.{bits}
-use Rattle.st_types.specs.Ranges.{Fits, highest}
+use Rattle.st_types.specs.Elem.{bits}
+use Rattle.st_types.specs.Range.{Fits, highest}
 use Rattle.plc_num.specs.Wrapping.{Wraps, wrapped}
-use Rattle.plc_num.specs.Operations.{rest}
+use Rattle.plc_num.specs.Arithmetic.{rest}
 use Rattle.plc_num.proofs.WrappingLaws.{Apart, apart_through, apart_coarser, wrapped-apart, whole_turns, rem_turns, Fits-wraps, rest-wraps, rest-down-wraps, rem_low}
 
 pub kept_case : (e : Elem) (v : ℤ) → FitsSigned w128 v → Fits e (to_z w128 (of_z w128 v)) → Wraps e v (to_z w128 (of_z w128 v))

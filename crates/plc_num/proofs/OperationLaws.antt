@@ -4,8 +4,9 @@ use Rattle.std.specs.Prelude.{◌+ℤ◌, ◌*ℤ◌, ◌≤ℤ◌, neg_ℤ, int
 use Rattle.std.proofs.lemmas.Int.{ints, rem_below}
 use Rattle.std.proofs.Math.Nat.{zero-mod}
 use Rattle.st_types.specs.declared.elem.Elem.{Elem}
-use Rattle.st_types.specs.Kinds.{bits}
-use Rattle.plc_num.specs.Operations.{rest, bit, value_of_bits, conjunction, disjunction, complement}
+use Rattle.st_types.specs.Elem.{bits}
+use Rattle.plc_num.specs.Arithmetic.{rest}
+use Rattle.plc_num.specs.Bits.{bit, value_of_bits, conjunction, disjunction, complement}
 use Rattle.plc_num.proofs.Machine.{abs_neg, rest_of}
 use Rattle.plc_num.proofs.BitLaws.{HasBits-unique, value_of_bits-has}
 

@@ -7,8 +7,8 @@ use Rattle.std.proofs.Math.Nat.{mod-lt, div-add-mod', mul-le-mul_right}
 use Rattle.std.proofs.lemmas.Bool.{cases_lt}
 use Rattle.st_types.specs.declared.elem.Elem.{Elem}
 use Rattle.st_types.specs.declared.elem.Elem.TheVariants as kind
-use Rattle.st_types.specs.Kinds.{bits}
-use Rattle.st_types.specs.Ranges.{Fits, lowest, highest}
+use Rattle.st_types.specs.Elem.{bits}
+use Rattle.st_types.specs.Range.{Fits, lowest, highest}
 use Rattle.plc_num.specs.Wrapping.{Wraps, wrapped}
 
 -- z is its remainder and a number of times n

@@ -1,2 +1,4 @@
-pub mod Operations
 pub mod Wrapping
+pub mod Arithmetic
+pub mod Bits
+pub mod Conversion

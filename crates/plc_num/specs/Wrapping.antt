@@ -2,8 +2,8 @@
 use Rattle.std.specs.Prelude.{◌≡◌, ◌^◌, ℤ, pos, ◌+ℤ◌, ◌-ℤ◌, ◌*ℤ◌}
 use Rattle.std.specs.Int.{int_rem_euclid}
 use Rattle.st_types.specs.declared.elem.Elem.{Elem}
-use Rattle.st_types.specs.Kinds.{bits}
-use Rattle.st_types.specs.Ranges.{Fits, lowest}
+use Rattle.st_types.specs.Elem.{bits}
+use Rattle.st_types.specs.Range.{Fits, lowest}
 
 -- r is the value of the kind that differs from v by a multiple of two to the width
 pub record Wraps (e : Elem) (v r : ℤ) : Type 0 where

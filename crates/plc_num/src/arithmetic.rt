@@ -1,6 +1,8 @@
+//! Sums, products and quotients, wrapped to a kind.
+
 ghost use Rattle.std.specs.Prelude.{◌≡◌, ◌↔◌, pos, IsNone, IfSome};
-ghost use Rattle.st_types.specs.Ranges.{Fits};
-ghost use Rattle.plc_num.specs.Operations.{sum, difference, product, quotient, remainder};
+ghost use Rattle.st_types.specs.Range.{Fits};
+ghost use Rattle.plc_num.specs.Arithmetic.{sum, difference, product, quotient, remainder};
 
 use crate::wrapping::wrap;
 use st_types::Elem;

@@ -1,6 +1,8 @@
+//! The operators on bits.
+
 ghost use Rattle.std.specs.Prelude.{◌≡◌, ℕ, ◌<◌, ◌&&◌, ◌||◌, not as not_bit};
-ghost use Rattle.st_types.specs.Ranges.{Fits};
-ghost use Rattle.plc_num.specs.Operations.{HasBits, bit, exclusive_or, conjunction, disjunction, exclusive_disjunction, complement};
+ghost use Rattle.st_types.specs.Range.{Fits};
+ghost use Rattle.plc_num.specs.Bits.{HasBits, bit, exclusive_or, conjunction, disjunction, exclusive_disjunction, complement};
 
 use crate::wrapping::wrap;
 use st_types::Elem;

@@ -1,5 +1,7 @@
+//! Conversions between kinds, and the order of numbers.
+
 ghost use Rattle.std.specs.Prelude.{◌≡◌};
-ghost use Rattle.plc_num.specs.Operations.{converted, Compares};
+ghost use Rattle.plc_num.specs.Conversion.{converted, Compares};
 
 use crate::wrapping::wrap;
 use st_types::Elem;

@@ -1,8 +1,11 @@
+//! What follows from the definitions of the operations.
+
 ghost use Rattle.std.specs.Prelude.{◌≡◌, ◌≢◌, ℕ, ◌/◌, ◌<◌, ℤ, pos, ◌+ℤ◌, ◌*ℤ◌, ◌≤ℤ◌, Bool, int_div, unsigned_abs};
 ghost use Rattle.st_types.specs.declared.elem.Elem.{Elem as Kind};
-ghost use Rattle.st_types.specs.Ranges.{Fits};
+ghost use Rattle.st_types.specs.Range.{Fits};
 ghost use Rattle.plc_num.specs.Wrapping.{Wraps, wrapped};
-ghost use Rattle.plc_num.specs.Operations.{rest, HasBits, value_of_bits, conjunction, disjunction, complement};
+ghost use Rattle.plc_num.specs.Arithmetic.{rest};
+ghost use Rattle.plc_num.specs.Bits.{HasBits, value_of_bits, conjunction, disjunction, complement};
 
 /// A number wraps to one value of the kind. What is wrapped, as each value of the kind, wraps to itself.
 pub fn wrapping_laws()

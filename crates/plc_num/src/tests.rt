@@ -1,3 +1,5 @@
+//! Operations at the ends of each kind.
+
 use crate::{add, and, compare, convert, div, mul, not, or, rem, sub, wrap, xor};
 use st_types::{Elem, fits};
 use std::cmp::Ordering;

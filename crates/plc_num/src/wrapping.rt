@@ -1,5 +1,7 @@
+//! Numbers wrapped to a kind.
+
 ghost use Rattle.std.specs.Prelude.{◌≡◌, ◌^◌, pos};
-ghost use Rattle.st_types.specs.Kinds.{bits};
+ghost use Rattle.st_types.specs.Elem.{bits};
 ghost use Rattle.plc_num.specs.Wrapping.{Wraps, wrapped};
 
 use st_types::{Elem, fits, highest};

@@ -1,3 +1,4 @@
+-- The names of what a running program stops at.
 use Rattle.std.specs.Prelude.{ℕ, List, codes}
 use Rattle.plc_text.specs.declared.fault.FaultKind.{FaultKind}
 use Rattle.plc_text.specs.declared.fault.FaultKind.TheVariants.{Divide, Index, Null, Step, Watchdog, Depth}

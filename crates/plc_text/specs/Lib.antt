@@ -1,6 +1,8 @@
 pub mod Code
 pub mod Fault
+pub mod Fields
 pub mod Lines
+pub mod Numbers
 pub mod Text
 pub mod Words
 pub use Rattle.hex.specs.Hex

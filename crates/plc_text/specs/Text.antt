@@ -1,3 +1,4 @@
+-- Texts in upper case.
 use Rattle.std.specs.Prelude.{ℕ, List, map}
 use Rattle.std.specs.Char.{to_ascii_uppercase}
 

@@ -1,3 +1,5 @@
+//! The rules by which a program is refused.
+
 ghost use Rattle.std.specs.Prelude.{◌≡◌};
 ghost use Rattle.plc_text.specs.Code.{code_name};
 

@@ -1,3 +1,5 @@
+//! Why a call gave no result.
+
 ghost use Rattle.std.specs.Prelude.{◌≡◌};
 ghost use Rattle.plc_text.specs.declared.denied.Denied.TheVariants.{Refused, NoMemory};
 

@@ -1,3 +1,5 @@
+//! What a running program stops at.
+
 ghost use Rattle.std.specs.Prelude.{◌≡◌};
 ghost use Rattle.plc_text.specs.Fault.{fault_name};
 

@@ -5,8 +5,10 @@
 mod code;
 mod denied;
 mod fault;
+mod fields;
 mod lines;
 mod memory;
+mod numbers;
 mod refusal;
 #[cfg(test)]
 mod tests;
@@ -16,8 +18,10 @@ mod words;
 pub use code::Code;
 pub use denied::Denied;
 pub use fault::{Fault, FaultKind};
-pub use lines::{Span, line_of};
+pub use fields::split_field;
+pub use lines::{Lines, Span, line_of};
 pub use memory::NoMemory;
+pub use numbers::number;
 pub use refusal::Refusal;
 pub use sqlite_items::{Boxed, Items};
 pub use text::Text;

@@ -1,3 +1,5 @@
+//! A program that is refused.
+
 ghost use Rattle.std.specs.Prelude.{◌≡◌, is_some};
 ghost use Rattle.plc_text.specs.Code.{is_e17};
 

@@ -1,10 +1,12 @@
+//! Texts, words, numbers, lines and names by example.
+
 ghost use Rattle.std.specs.Prelude.{◌≡◌, ◌↔◌, IsTrue, IfErr, OnOk, Some};
 ghost use Rattle.std.specs.HashMap.{get};
 ghost use Rattle.std.specs.Str.{bytes_eq};
 
 use crate::{
-    Code, Denied, Fault, FaultKind, Items, NoMemory, Refusal, Span, Text, is_blank, is_number,
-    is_upper_word, is_word, line_of, opens, spells,
+    Code, Denied, Fault, FaultKind, Items, Lines, NoMemory, Refusal, Span, Text, is_blank,
+    is_number, is_upper_word, is_word, line_of, number, opens, spells, split_field,
 };
 use std::alloc::{AllocError, AllocFailed, Global};
 use std::cmp::Ordering;
@@ -139,6 +141,41 @@ fn counts_lines(rt: HostRuntime) {
     }
     let span = Span { start: 2, end: 4 };
     assert_eq!(rt; span, Span { start: 2, end: 4 });
+}
+
+#[test]
+fn takes_lines_apart(rt: HostRuntime) {
+    let mut lines = Lines::new("a b \r\n\nc");
+    assert_eq!(rt; lines.next_line(), Some("a b \r"));
+    assert_eq!(rt; lines.next_line(), Some(""));
+    assert_eq!(rt; lines.next_line(), Some("c"));
+    assert_eq!(rt; lines.next_line(), None);
+    for (line, want) in [
+        ("ok 12 -", ("ok", "12 -")),
+        (" ok", ("", "ok")),
+        ("held", ("held", "")),
+        ("", ("", "")),
+    ] {
+        assert_eq!(rt; split_field(line), want, "{line:?}");
+    }
+}
+
+#[test]
+fn reads_numbers(rt: HostRuntime) {
+    for (word, want) in [
+        ("0", Some(0)),
+        ("007", Some(7)),
+        ("4294967295", Some(4_294_967_295)),
+        ("4294967296", None),
+        ("00000000000000000000000042", Some(42)),
+        ("99999999999999999999999999", None),
+        ("", None),
+        ("+1", None),
+        ("-1", None),
+        ("1 ", None),
+    ] {
+        assert_eq!(rt; number(word), want, "{word:?}");
+    }
 }
 
 #[test]

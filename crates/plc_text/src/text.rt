@@ -1,3 +1,5 @@
+//! Texts that own their bytes.
+
 ghost use Rattle.std.specs.Prelude.{◌≡◌, ◌↔◌, [], ◌++◌, length, nat_eq, decimal, refl, Some, IsTrue, IfOk, OnOk, OnErr};
 ghost use Rattle.std.specs.Fmt.{styled_text, debug_str};
 ghost use Rattle.std.specs.Hash as fed;

@@ -1,3 +1,5 @@
+//! Why a name is not added.
+
 use plc_text::Text;
 
 /// Why a name was not added. Its name and value come back.

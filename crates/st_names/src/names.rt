@@ -1,3 +1,5 @@
+//! Tables of distinct names, in the order of adding.
+
 ghost use Rattle.std.specs.Prelude.{◌≡◌, ◌<◌, ◌^◌, ◌↔◌, [], ◌∷◌, ◌++◌, length, IsTrue, IfOk, IfErr, OnErr, MatchOption};
 ghost use Rattle.std.specs.Map.Iter.{ShowsInOrder, deref_pair};
 ghost use Rattle.st_names.specs.Names.{IsAt, IsValueAt, HasName, IsPairOf, AreDistinct, IsRefusal};

@@ -1,3 +1,5 @@
+//! Tables of names by example.
+
 ghost use Rattle.std.specs.Prelude.{◌≡◌, ◌∷◌, [], ◌++◌, OnOk};
 
 use crate::{AddError, Names};

@@ -1,25 +1,11 @@
 -- What the parser of expressions answers: the longest expression, or why there is none, with the limit on nesting.
-use Rattle.std.specs.Prelude.{ℕ, suc, ◌+◌, ◌-◌, ◌<◌, ◌≤◌, List, [], ◌++◌, take, length}
+use Rattle.std.specs.Prelude.{ℕ, ◌+◌, ◌-◌, ◌≤◌, List, [], take}
 use Rattle.st_tree.specs.Expression.{Expression}
 use Rattle.st_tree.specs.Grammar.{Lexeme, expression}
 use Rattle.st_tree.specs.Nesting.{NoneDeep, FirstDeep}
+use Rattle.st_tree.specs.Beginnings.{Language, Begins, StopsAt}
 use Rattle.st_parser_expr.specs.declared.stop.ParseError.{ParseError}
 use Rattle.st_parser_expr.specs.declared.stop.ParseError.TheVariants.{Syntax, Nesting, NoMemory}
-
--- what lexemes may be as a whole
-abbrev pub Language : Type 1
-Language = List Lexeme → Type 0
-
--- one of the language begins with the lexemes
-abbrev pub Begins : Language → List Lexeme → Type 0
-Begins L ts = (after : List Lexeme) × L (ts ++ after)
-
--- p is the first place such that nothing of the language begins with the lexemes up to and with it, or their number where there is
--- no such place
-pub record StopsAt (L : Language) (ts : List Lexeme) (p : ℕ) : Type 0 where
-  pub within : p ≤ length ts
-  pub begins : Begins L (take p ts)
-  pub first : p < length ts → Begins L (take (suc p) ts) → ⊥
 
 -- the lexemes spell the expression
 abbrev pub Spells : List Lexeme → Expression ℕ → Type 0

@@ -12,6 +12,8 @@ pub mod Statement
 pub mod Grammar
 pub mod Nesting
 pub mod Declarations
+pub mod Beginnings
+pub mod NoUnit
 pub mod Reads
 pub use Rattle.plc_text.specs.declared.lines.Span
 pub mod Private

@@ -34,7 +34,7 @@ pub use marks::Marks;
 pub use name::{Name, Used};
 pub use number::number_of;
 pub use path::{Path, Step, Steps};
-pub use program::{ConstantDecl, Note, Program, RegionDecl, Target, TaskDecl};
+pub use program::{Note, Program, RegionDecl, Target, TaskDecl};
 pub use statement::{Branch, Case, Label, LabelEnd, Otherwise, Stmt};
 pub use terminal::{Terminal, is_keyword, keyword, symbol, terminal_laws, terminal_of};
 pub use token::{TokenKind, token_laws};

@@ -11,27 +11,27 @@ use st_types::StType;
 pub enum Target {
     /// The node names nothing.
     Nothing,
-    /// A local of the routine: its result, inputs, outputs, in-outs and variables.
+    /// A local of the routine: its result, its inputs, outputs and in-outs in the order of the text, then its other variables.
+    /// Of a body the in-outs and temporary variables in the order of the text, those of its bases first.
     Local(u32),
-    /// A constant of the routine.
-    LocalConstant(u32),
-    /// A variable of the class, those of its bases first.
+    /// A variable of the class or program, those of its bases first.
     Variable(u32),
-    /// A constant of the class, those of its bases first.
-    ClassConstant(u32),
     /// A field of a structure.
     Field(u32),
     /// A global that is no constant: its region.
     Region(u32),
-    /// A global that is a constant, counted among these.
-    GlobalConstant(u32),
     Function(u32),
     /// A method of the class or interface that the node's place has.
     Method(u32),
-    /// An input, output or in-out of what is called.
+    /// A conversion to the type of the call.
+    Conversion,
+    /// An input, output or in-out of what is called, counted among these in the order of the text, those of its bases first.
     Parameter(u32),
     /// A value of an enumeration.
     Enumerator(u32),
+    /// A constant, or an expression where the language asks for a constant, with its value: a number of its type, or the
+    /// number of an enumerator.
+    Constant(i128),
 }
 
 /// What is found out about a node.
@@ -48,19 +48,13 @@ pub struct RegionDecl {
     pub name: Text,
     /// Whether it is a program instance.
     pub program: bool,
-    /// For a program instance its instance type.
+    /// For a program instance its instance type: the number of the program, counted behind all classes.
     pub kind: StType,
     pub marks: Marks,
     /// Of a global, where it has one of its own.
     pub initial: Option<Init<Note>>,
-}
-
-/// A global constant. Its value is a number of its kind, or the number of an enumerator.
-#[derive(Debug, Drop)]
-pub struct ConstantDecl {
-    pub name: Text,
-    pub kind: StType,
-    pub value: i128,
+    /// Of a global, where it has one, in upper case.
+    pub address: Option<Text>,
 }
 
 /// A task with its programs, which are numbers of regions.
@@ -81,7 +75,6 @@ pub struct Program {
     pub interfaces: Items<InterfaceDecl<Note>>,
     pub functions: Items<FunctionDecl<Note>>,
     pub programs: Items<ProgramDecl<Note>>,
-    pub constants: Items<ConstantDecl>,
     pub regions: Items<RegionDecl>,
     pub tasks: Items<TaskDecl>,
 }

@@ -9,8 +9,8 @@ use Rattle.std.proofs.lemmas.List.FromFn.{get_or-range_with_len}
 use Rattle.st_types.specs.declared.elem.Elem.{Elem}
 use Rattle.st_types.specs.declared.elem.Elem.TheVariants as kind
 use Rattle.st_types.specs.Widening.{Widens, Reaches, IsCommon, place, itself, through, sint_int, int_dint, dint_lint, usint_uint, uint_udint, udint_ulint, usint_int, uint_dint, udint_lint, byte_word, word_dword, dword_lword}
-use Rattle.st_types.specs.Reached.{reached}
-use Rattle.st_types.specs.Ranges.{Fits, lowest, highest}
+use Rattle.st_types.specs.Private.Reached.{reached}
+use Rattle.st_types.specs.Range.{Fits, lowest, highest}
 
 pub reaches_of : (a b : Elem) → reached a b ≡ true → Reaches a b
 reaches_of kind.Sint kind.Sint h = itself

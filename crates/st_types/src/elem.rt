@@ -1,5 +1,7 @@
+//! The elementary kinds (IEC 61131-3:2013, table 10).
+
 ghost use Rattle.std.specs.Prelude.{◌≡◌};
-ghost use Rattle.st_types.specs.Kinds as kinds;
+ghost use Rattle.st_types.specs.Elem as kinds;
 
 /// An elementary kind (IEC 61131-3:2013, table 10).
 #[derive(Clone, Copy, Debug, PartialEq, Eq, PartialOrd, Ord, Hash)]

@@ -1,5 +1,7 @@
+//! Which numbers are values of a kind.
+
 ghost use Rattle.std.specs.Prelude.{◌≡◌, ◌↔◌, IsTrue};
-ghost use Rattle.st_types.specs.Ranges as ranges;
+ghost use Rattle.st_types.specs.Range as ranges;
 
 use crate::elem::Elem;
 

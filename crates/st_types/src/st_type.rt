@@ -1,3 +1,5 @@
+//! Types made of elementary kinds, declarations and arrays.
+
 ghost use Rattle.std.specs.Prelude.{◌≡◌, ◌↔◌, IsTrue, IfOk};
 
 use crate::elem::Elem;

@@ -1,3 +1,5 @@
+//! The kinds as tables, widening and types by example.
+
 use crate::{Boxed, Elem, StType, fits, highest, lowest, reaches, widen};
 use std::alloc::{AllocError, Global};
 use std::test::Fail;

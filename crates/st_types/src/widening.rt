@@ -1,7 +1,9 @@
+//! Which kind widens to which (IEC 61131-3:2013, figure 11).
+
 ghost use Rattle.std.specs.Prelude.{◌≡◌, ◌↔◌, ℤ, IsTrue, MatchOption};
-ghost use Rattle.st_types.specs.Ranges.{Fits};
+ghost use Rattle.st_types.specs.Range.{Fits};
 ghost use Rattle.st_types.specs.declared.elem.Elem.{Elem as Kind};
-ghost use Rattle.st_types.specs.Reached.{reached};
+ghost use Rattle.st_types.specs.Private.Reached.{reached};
 ghost use Rattle.st_types.specs.Widening.{Reaches, IsCommon};
 
 use crate::elem::Elem;

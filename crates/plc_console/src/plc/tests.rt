@@ -11,6 +11,9 @@ CONFIGURATION C TASK MAIN(); PROGRAM P1 WITH MAIN : P; END_CONFIGURATION
 @plays
 ";
 
+/// Room for the longest journal of these tests.
+const ROOM: usize = 4_194_304;
+
 /// The words of a line.
 fn words_of(alloc: Global, line: &str) -> Result<Vec<Text>, NoMemory> {
     let mut list = Vec::new(alloc);
@@ -33,7 +36,7 @@ fn played<R: Threads + Wait + Sync>(
 ) -> Result<(Status, Vec<u8>), Fail> {
     let words = words_of(alloc, "play")?;
     let mut source = source_of(alloc, input.as_bytes())?;
-    let mut sink = MemSink::new(alloc, 1000, Vec::new(alloc));
+    let mut sink = MemSink::new(alloc, ROOM, 1000, Vec::new(alloc))?;
     let status = plc(
         rt,
         alloc,
@@ -234,7 +237,7 @@ fn reads_nothing_at_other_words(rt: HostRuntime) -> Result<(), Fail> {
     for line in ["", "load 0", "play extra", "--help", "Play"] {
         let words = words_of(alloc, line)?;
         let mut source = source_of(alloc, COUNTER.as_bytes())?;
-        let mut sink = MemSink::new(alloc, 1000, Vec::new(alloc));
+        let mut sink = MemSink::new(alloc, ROOM, 1000, Vec::new(alloc))?;
         let status = plc(
             &rt,
             alloc,
@@ -260,7 +263,7 @@ fn tells_failed_reads_and_writes(rt: HostRuntime) -> Result<(), Fail> {
     // The second call fails, after 100 bytes.
     let bytes = Vec::from_slice(alloc, input.as_bytes())?;
     let mut source = MemSource::new(bytes, 100, vec![in alloc; 2]?);
-    let mut sink = MemSink::new(alloc, 1000, Vec::new(alloc));
+    let mut sink = MemSink::new(alloc, ROOM, 1000, Vec::new(alloc))?;
     let status = plc(
         &rt,
         alloc,
@@ -274,7 +277,7 @@ fn tells_failed_reads_and_writes(rt: HostRuntime) -> Result<(), Fail> {
 
     // The second call fails, after 7 bytes.
     let mut source = source_of(alloc, input.as_bytes())?;
-    let mut sink = MemSink::new(alloc, 7, vec![in alloc; 2]?);
+    let mut sink = MemSink::new(alloc, ROOM, 7, vec![in alloc; 2]?)?;
     let status = plc(
         &rt,
         alloc,
@@ -297,7 +300,7 @@ fn tells_an_input_that_is_too_long(rt: HostRuntime) -> Result<(), Fail> {
         bytes.push(b' ')?;
     }
     let mut source = MemSource::new(bytes, 1_000_000, Vec::new(alloc));
-    let mut sink = MemSink::new(alloc, 1000, Vec::new(alloc));
+    let mut sink = MemSink::new(alloc, ROOM, 1000, Vec::new(alloc))?;
     let status = plc(
         &rt,
         alloc,
@@ -308,6 +311,67 @@ fn tells_an_input_that_is_too_long(rt: HostRuntime) -> Result<(), Fail> {
     );
     assert_eq!(rt; status, Status::TooLong);
     assert_eq!(rt; sink.bytes().len(), 0);
+    Ok(())
+}
+
+/// The front, the piece so many times, and the back.
+fn repeated(
+    alloc: Global,
+    front: &str,
+    piece: &str,
+    count: u32,
+    back: &str,
+) -> Result<String, AllocError> {
+    let mut text = String::from_str(alloc, front)?;
+    for _ in 0..count {
+        text.push_str(piece)?;
+    }
+    text.push_str(back)?;
+    Ok(text)
+}
+
+#[test]
+fn keeps_the_limits_of_a_program(rt: HostRuntime) -> Result<(), Fail> {
+    let alloc = rt.alloc();
+    for (count, status) in [(256, Status::Done), (257, Status::Refused)] {
+        let body = repeated(alloc, "x := 0", " + 1", count, ";")?;
+        let input = scenario_of(alloc, "x : DINT;", body.as_str())?;
+        let (told, _) = played(&rt, alloc, input.as_str())?;
+        assert_eq!(rt; told, status, "{count} operators");
+    }
+    for (count, status) in [(1_000, Status::Done), (1_001, Status::Refused)] {
+        let body = repeated(alloc, "", "x := x + 1;\n", count, "")?;
+        let input = scenario_of(alloc, "x : DINT;", body.as_str())?;
+        let (told, _) = played(&rt, alloc, input.as_str())?;
+        assert_eq!(rt; told, status, "{count} statements");
+    }
+    Ok(())
+}
+
+#[test]
+fn keeps_the_limit_of_a_source(rt: HostRuntime) -> Result<(), Fail> {
+    let alloc = rt.alloc();
+    // The counter's text has 137 bytes, so with the first count there are 1,048,576, with the second one more.
+    for (count, status) in [(1_048_439, Status::Done), (1_048_440, Status::Refused)] {
+        let text = COUNTER.strip_prefix("@program\n").ok_or("no program")?;
+        let input = repeated(alloc, "@program\n", " ", count, text)?;
+        let input = format!(in alloc; "{input}@end\n")?;
+        let (told, _) = played(&rt, alloc, input.as_str())?;
+        assert_eq!(rt; told, status, "{count} spaces");
+    }
+    Ok(())
+}
+
+#[test]
+fn keeps_the_limit_of_plays(rt: HostRuntime) -> Result<(), Fail> {
+    let alloc = rt.alloc();
+    for (count, status) in [(65_536, Status::Done), (65_537, Status::Script)] {
+        let input = repeated(alloc, COUNTER, "cycle MAIN 0 -\n", count, "@end\n")?;
+        let (told, text) = played(&rt, alloc, input.as_str())?;
+        assert_eq!(rt; told, status, "{count} plays");
+        let last = "1 65536 cycle MAIN 0 ok 1 00000100\nend 65536\n";
+        assert_eq!(rt; text.ends_with(last.as_bytes()), status == Status::Done);
+    }
     Ok(())
 }
 

@@ -3,8 +3,8 @@ use Rattle.std.specs.Prelude.{codes}
 use Rattle.std.specs.Fmt.{decimal}
 use Rattle.std.specs.List.{flat_map}
 use Rattle.cycle_journal.specs.declared.entry.Entry.{Entry}
-use Rattle.cycle_journal.specs.Journal.{entry_text}
-use Rattle.cycle_journal.specs.Lines.{ended}
+use Rattle.cycle_journal.specs.Writing.{entry_text}
+use Rattle.plc_text.specs.Lines.{ended}
 use Rattle.cycle_journal.proofs.WritingLaws.{journal_written}
 use Rattle.cycle_journal.proofs.writing.journal_text.Goals as goal
 

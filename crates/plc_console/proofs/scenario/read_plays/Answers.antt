@@ -1,7 +1,7 @@
 use Rattle.std.proofs.Common.{List, ℕ, codes, subst, sym, arith}
 use Rattle.std.proofs.lemmas.Result.{err_from_is_err_and}
 use Rattle.cycle_journal.specs.declared.play.Play.{Play}
-use Rattle.cycle_journal.specs.Journal.{name_of}
+use Rattle.cycle_journal.specs.Play.{name_of}
 use Rattle.plc_console.specs.Among.{IsAmong}
 use Rattle.plc_console.specs.ScenarioReading.{SeesName}
 use Rattle.plc_console.proofs.ScenarioParts.{PlaysRead, plays_more, plays_unended, line_refused, plays_refused, name_refused}

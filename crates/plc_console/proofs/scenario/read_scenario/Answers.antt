@@ -1,6 +1,6 @@
 use Rattle.std.proofs.Common.{sym, ap, ◌∙◌}
 use Rattle.std.proofs.lemmas.Result.{err_from_is_err_and}
-use Rattle.cycle_journal.specs.Lines.{lines_of}
+use Rattle.plc_text.specs.Lines.{lines_of}
 use Rattle.plc_console.proofs.ScenarioParts.{scenario_source, scenario_plays, scenario_end}
 use Rattle.plc_console.proofs.scenario.read_scenario.Goals as goal
 

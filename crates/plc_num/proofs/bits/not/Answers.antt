@@ -2,7 +2,7 @@ use Rattle.std.proofs.Common.{◌∙◌}
 use Rattle.std.specs.Prelude.{not}
 use Rattle.std.specs.Int.{w128}
 use Rattle.std.proofs.lemmas.Int.{to_z-of_z}
-use Rattle.plc_num.specs.Operations.{bit}
+use Rattle.plc_num.specs.Bits.{bit}
 use Rattle.plc_num.proofs.BitLaws.{bits_kept, value_of_bits-is}
 use Rattle.plc_num.proofs.bits.not.Goals as goal
 

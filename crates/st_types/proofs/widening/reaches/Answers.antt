@@ -1,5 +1,5 @@
 use Rattle.std.proofs.Common.{◌≡◌, true}
-use Rattle.st_types.specs.Reached.{reached}
+use Rattle.st_types.specs.Private.Reached.{reached}
 use Rattle.st_types.proofs.WideningLaws.{reaches_of, reached_of}
 use Rattle.st_types.proofs.widening.reaches.Goals as goal
 

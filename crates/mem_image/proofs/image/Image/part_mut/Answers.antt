@@ -1,5 +1,5 @@
 use Rattle.std.proofs.Common.{◌≤◌, length, refl, ap, ◌∙◌, arith, rules}
-use Rattle.mem_image.specs.Images.{replaced}
+use Rattle.mem_image.specs.Image.{replaced}
 use Rattle.mem_image.proofs.PartLaws.{refilled}
 use Rattle.mem_image.proofs.image.Image.part_mut.Goals as goal
 

@@ -1,8 +1,8 @@
 use Rattle.std.proofs.Common.{◌≡◌, pos, ◌^◌, inl, inr, refl, ap, ◌∙◌, arith}
 use Rattle.std.specs.Int.{w128, int_rem_euclid}
 use Rattle.std.proofs.lemmas.Int.{to_z-of_z}
-use Rattle.st_types.specs.Kinds.{bytes}
-use Rattle.mem_image.specs.Images.{replaced}
+use Rattle.st_types.specs.Elem.{bytes}
+use Rattle.mem_image.specs.Image.{replaced}
 use Rattle.mem_image.proofs.NumberLaws.{write_1, write_2, write_4, write_8}
 use Rattle.mem_image.proofs.image.Image.write.Goals as goal
 

@@ -1,0 +1,3 @@
+-- Words that the contracts of private functions alone cite.
+pub mod Candidate
+pub mod Reading

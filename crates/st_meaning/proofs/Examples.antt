@@ -1,0 +1,7 @@
+mod Fault
+mod Dispatch
+mod Aliases
+mod Count
+mod Blocks
+mod Outputs
+mod Depth

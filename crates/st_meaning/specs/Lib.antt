@@ -1,0 +1,14 @@
+pub mod State
+pub mod Operation
+pub mod Place
+pub mod Call
+pub mod Expression
+pub mod Loop
+pub mod Statement
+pub mod Enter
+pub mod ProcessImage
+pub mod Cycle
+pub mod Good
+pub mod Use
+pub mod Footprint
+pub mod Promise

@@ -1,0 +1,4 @@
+//! What a checked program means.
+#![tactic(auto)]
+
+pub fn nothing() {}

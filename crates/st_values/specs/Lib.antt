@@ -1,0 +1,8 @@
+pub mod Rules
+pub mod Program
+pub mod Value
+pub mod Shape
+pub mod Initial
+pub mod View
+pub mod ValueLaws
+pub mod ShapeLaws
