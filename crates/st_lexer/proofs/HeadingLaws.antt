@@ -6,7 +6,7 @@ use Rattle.std.proofs.lemmas.List.{drop_more, take-append-drop, take_rest, map-a
 use Rattle.plc_text.specs.Text.{folded}
 use Rattle.st_tree.specs.declared.terminal.Terminal.{Terminal}
 use Rattle.st_tree.specs.declared.marks.Marks.{Marks}
-use Rattle.st_tree.specs.Tokens.{Token}
+use Rattle.st_tree.specs.Token.{Token}
 use Rattle.st_lexer.specs.declared.token.Token.{Token as Lexed}
 use Rattle.st_lexer.specs.Token.{token_view}
 use Rattle.st_tree.specs.Grammar.{Lexeme}

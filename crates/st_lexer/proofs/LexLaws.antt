@@ -16,7 +16,7 @@ use Rattle.std.specs.Bool.{◌==◌}
 use Rattle.st_tree.specs.declared.terminal.Terminal.{Terminal}
 use Rattle.st_tree.specs.declared.token.TokenKind.{TokenKind}
 use Rattle.st_tree.specs.Pieces.{is_piece}
-use Rattle.st_tree.specs.Tokens.{Token, IsPiece, IsChain, Lexes, token_at, tokens_between, piece_kind}
+use Rattle.st_tree.specs.Token.{Token, IsPiece, IsChain, Lexes, token_at, tokens_between, piece_kind}
 use Rattle.st_lexer.specs.Private.Piece.{IsLongestFront, BeginsPiece, BeginsToken, line_feeds}
 
 slice_front : (text : List ℕ) (p n : ℕ) → slice_range text p (p + n) ≡ take n (drop p text)

@@ -14,7 +14,7 @@ use Rattle.st_tree.specs.declared.token.TokenKind.TheVariants.{Word, Keyword, In
 use Rattle.st_tree.specs.Terminal.{is_symbol, is_keyword, keyword_terminals, symbol_terminals, terminal_in}
 use Rattle.st_tree.specs.Pieces.{is_white_space, is_comment, is_pragma, is_int, is_time, is_address, is_whole_word, is_whole_symbol, opens_comment, is_number_sign, is_piece}
 use Rattle.st_tree.specs.Marks.{is_mark}
-use Rattle.st_tree.specs.Tokens.{piece_kind}
+use Rattle.st_tree.specs.Token.{piece_kind}
 use Rattle.st_tree.proofs.TerminalLaws.{found_is, no_symbol as no_long_symbol}
 use Rattle.st_lexer.specs.Private.Piece.{IsLongest, IsLongestFront, BeginsPiece, BeginsToken, BeginsSymbol, line_feeds}
 use Rattle.st_lexer.specs.Private.Reach.{comment_len, pragma_len, int_len, time_len, timed_len, address_len, word_len}

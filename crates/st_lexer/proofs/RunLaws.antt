@@ -1,6 +1,6 @@
 -- Fronts that are found character by character.
 use Rattle.std.proofs.Common.{◌≡◌, ℕ, zero, suc, ◌+◌, ◌<◌, ◌≤◌, Bool, true, false, ◌&&◌, List, [], ◌∷◌, length, take, refl, sym, ap, ◌∙◌, inl, inr, nat_eq, cond, length-take, arith}
-use Rattle.std.proofs.lemmas.Bool.{and_parts, and_left, and_right, both_ways, cases_Bool, cases_lt, cases_eq, cond-true, cond-false, or_left, false_from_ne_true, and_cases, ne_eqb, eq-eqb}
+use Rattle.std.proofs.lemmas.Bool.{and_parts, and_left, and_right, both_ways, cases_Bool, cases_lt, cond-true, cond-false, or_left, false_from_ne_true, and_cases, ne_eqb, eq-eqb}
 use Rattle.std.specs.List.{list_all, prefix_len}
 use Rattle.plc_text.specs.Words.{spells, opens, begins, is_digit, is_letter, is_word_character, is_word, is_number}
 use Rattle.st_tree.specs.Pieces.{ends_first, are_spaced, is_underscore}
@@ -187,32 +187,6 @@ digits_front test text = let found = spaced_front test 0 0 false text in rw (fou
     whole : (n : ℕ) → later 0 0 n ≡ n
     whole zero = refl
     whole (suc n) = later_some 0 0 (suc n) (omega arith) ∙ omega arith
-
--- the run of letters and digits is the whole of a word
-
-eqb-suc : (a b : ℕ) → nat_eq (suc a) (suc b) ≡ nat_eq a b
-eqb-suc a b = elim (cases_eq a b) [
-  | inl same ↦ eq-eqb (suc a) (suc b) (omega arith) ∙ sym (eq-eqb a b same)
-  | inr other ↦ ne_eqb (suc a) (suc b) (λ e. other (omega arith)) ∙ sym (ne_eqb a b other)
-]
-
-run_whole : (test : ℕ → Bool) (text : List ℕ) → nat_eq (prefix_len test text) (length text) ≡ list_all test text
-run_whole test [] = refl
-run_whole test (c ∷ cs) = elim (cases_Bool (test c)) [
-  | inl holds ↦
-      let e : prefix_len test (c ∷ cs) ≡ suc (prefix_len test cs) = cond-true (test c) _ _ holds ∙ omega arith in
-      ap (λ n. nat_eq n (suc (length cs))) e ∙ eqb-suc _ _ ∙ run_whole test cs ∙ sym (ap (λ b. b && list_all test cs) holds)
-  | inr fails ↦
-      let e : prefix_len test (c ∷ cs) ≡ 0 = cond-false (test c) _ _ fails in
-      ap (λ n. nat_eq n (suc (length cs))) e ∙ ne_eqb 0 (suc (length cs)) (λ f. omega arith) ∙ sym (and_left _ _ fails)
-]
-
-pub whole_word : (text : List ℕ) → begins is_letter text ≡ true → nat_eq (prefix_len is_word_character text) (length text) ≡ is_word text
-whole_word [] h = absurd (both_ways false refl h)
-whole_word (c ∷ cs) h =
-    run_whole is_word_character (c ∷ cs)
-    ∙ ap (λ b. b && list_all is_word_character cs) (or_left _ _ h)
-    ∙ sym (ap (λ b. b && list_all is_word_character cs) h)
 
 -- whether a front of the greatest length passes a test is whether the test reaches it
 pub reaches : (test : List ℕ → Bool) (text : List ℕ) (a n : ℕ) → IsLongest test text a → 0 < n → a ≤ n → n ≤ length text → nat_eq a n ≡ test (take n text)

@@ -5,7 +5,7 @@ use Rattle.plc_text.specs.Lines.{line_of}
 use Rattle.plc_text.specs.declared.code.Code.TheVariants as codes
 use Rattle.plc_text.specs.declared.denied.Denied.{Denied}
 use Rattle.plc_text.specs.declared.denied.Denied.TheVariants.{Refused, NoMemory}
-use Rattle.st_tree.specs.Tokens.{Token, IsChain, IsBad, Lexes, BadAfter, tokens_between}
+use Rattle.st_tree.specs.Token.{Token, IsChain, IsBad, Lexes, BadAfter, tokens_between}
 use Rattle.st_tree.specs.Headings.{declaration_before}
 use Rattle.st_lexer.specs.declared.token.Token.{Token as Lexed}
 use Rattle.st_lexer.specs.Token.{token_view}

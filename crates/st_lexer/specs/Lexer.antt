@@ -1,6 +1,6 @@
 -- What a lexer is, and what it gives next.
 use Rattle.std.specs.Prelude.{◌≡◌, ℕ, List, [], ◌∷◌, length}
-use Rattle.st_tree.specs.Tokens.{Lexes, IsBad}
+use Rattle.st_tree.specs.Token.{Lexes, IsBad}
 use Rattle.st_lexer.specs.declared.token.Next.{Next}
 use Rattle.st_lexer.specs.declared.token.Next.TheVariants as nexts
 use Rattle.st_lexer.specs.Token.{token_view}

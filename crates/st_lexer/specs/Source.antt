@@ -6,7 +6,7 @@ use Rattle.plc_text.specs.declared.code.Code.TheVariants as codes
 use Rattle.plc_text.specs.declared.refusal.Refusal.{Refusal}
 use Rattle.plc_text.specs.declared.denied.Denied.{Denied}
 use Rattle.plc_text.specs.declared.denied.Denied.TheVariants.{Refused, NoMemory}
-use Rattle.st_tree.specs.Tokens.{Token, BadAfter}
+use Rattle.st_tree.specs.Token.{Token, BadAfter}
 use Rattle.st_tree.specs.Headings.{declaration_before}
 
 -- P holds where the source is refused; want of memory tells nothing

@@ -1,5 +1,5 @@
 -- A token of the lexer as a token of the text.
-use Rattle.st_tree.specs.Tokens.{Token}
+use Rattle.st_tree.specs.Token.{Token}
 use Rattle.st_lexer.specs.declared.token.Token.{Token as Lexed}
 
 -- without where its text lies in memory

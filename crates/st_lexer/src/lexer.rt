@@ -3,7 +3,7 @@
 ghost use Rattle.std.specs.Prelude.{◌≡◌, ◌+◌, ◌<◌, ◌≤◌, false, [], ◌∷◌, length, drop};
 ghost use Rattle.plc_text.specs.Lines.{line_of};
 ghost use Rattle.plc_text.specs.Words.{begins, is_blank as is_blank_of};
-ghost use Rattle.st_tree.specs.Tokens.{Lexes};
+ghost use Rattle.st_tree.specs.Token.{Lexes};
 ghost use Rattle.st_lexer.specs.Token.{token_view};
 ghost use Rattle.st_lexer.specs.Lexer.{GivesNext};
 ghost use Rattle.st_lexer.specs.Private.Piece.{BeginsToken, line_feeds as line_feeds_of};

@@ -2,14 +2,14 @@
 
 ghost use Rattle.std.specs.Prelude.{◌≡◌, ◌↔◌, true, IsSome, IfSome};
 ghost use Rattle.std.specs.List.{list_all, take_while};
-ghost use Rattle.plc_text.specs.Words.{behind_all, is_blank, is_word_character, is_word as is_word_of};
+ghost use Rattle.plc_text.specs.Words.{behind_all, is_blank, is_word_character};
 ghost use Rattle.st_tree.specs.Terminal.{is_name as is_name_of};
 ghost use Rattle.st_tree.specs.Pieces.{is_pragma as is_pragma_of};
 ghost use Rattle.st_tree.specs.Marks as marks;
 
-use crate::characters::{Class, ascii, begins, begins_letter, run};
+use crate::characters::{Class, ascii, begins, run};
 use crate::reach::pragma_len;
-use plc_text::opens;
+use plc_text::{is_word, opens};
 use st_tree::is_keyword;
 
 /// What stands between the braces.
@@ -45,12 +45,6 @@ fn says_attribute(text: &[u8], quoted: &[u8]) -> bool
     }
     let value = behind_blanks(&words[9..]);
     opens(value, quoted) && are_blank(&value[quoted.len()..])
-}
-
-fn is_word(text: &[u8]) -> bool
-    ensures { result ≡ is_word_of text.now }
-{
-    begins_letter(text) && run(text, Class::InWord) == text.len()
 }
 
 /// Whether the text is a word that may name something.

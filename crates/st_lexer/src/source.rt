@@ -4,7 +4,7 @@ ghost use Rattle.std.specs.Prelude.{◌≡◌, ◌<◌, ◌≤◌, ℕ, List, fa
 ghost use Rattle.plc_text.specs.Code.{is_e17};
 ghost use Rattle.plc_text.specs.Text.{folded};
 ghost use Rattle.plc_text.specs.Lines.{line_of as line_at};
-ghost use Rattle.st_tree.specs.Tokens.{Token as PlainToken, Tokens, BadAfter};
+ghost use Rattle.st_tree.specs.Token.{Token as PlainToken, Tokens, BadAfter};
 ghost use Rattle.st_tree.specs.Headings.{declaration_before};
 ghost use Rattle.st_lexer.specs.Token.{token_view};
 ghost use Rattle.st_lexer.specs.Source.{OnRefused, Says, SaysBad};

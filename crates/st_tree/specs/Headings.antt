@@ -3,7 +3,7 @@ use Rattle.std.specs.Prelude.{ℕ, zero, suc, Bool, true, false, List, [], ◌�
 use Rattle.std.specs.Option.{option_or, option_map_or}
 use Rattle.st_tree.specs.declared.terminal.Terminal.{Terminal}
 use Rattle.st_tree.specs.declared.terminal.Terminal.TheVariants as x
-use Rattle.st_tree.specs.Tokens.{Token}
+use Rattle.st_tree.specs.Token.{Token}
 use Rattle.st_tree.specs.Grammar.{Lexeme}
 use Rattle.st_tree.specs.Reads.{lexemes}
 

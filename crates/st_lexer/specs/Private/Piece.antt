@@ -7,7 +7,7 @@ use Rattle.st_tree.specs.declared.token.TokenKind.{TokenKind}
 use Rattle.st_tree.specs.declared.token.TokenKind.TheVariants as kinds
 use Rattle.plc_text.specs.Words.{begins, is_blank, is_word_character}
 use Rattle.st_tree.specs.Pieces.{opens_comment, is_piece}
-use Rattle.st_tree.specs.Tokens.{piece_kind}
+use Rattle.st_tree.specs.Token.{piece_kind}
 use Rattle.st_tree.specs.Reads.{terminal_of}
 use Rattle.st_lexer.specs.declared.piece.Piece.{Piece}
 use Rattle.st_lexer.specs.declared.piece.Piece.TheVariants as pieces

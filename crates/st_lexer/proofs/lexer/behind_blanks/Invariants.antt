@@ -1,6 +1,6 @@
 use Rattle.std.proofs.Common.{◌≡◌, ◌≤◌, ◌-◌, [], length}
 use Rattle.plc_text.specs.Lines.{line_of}
-use Rattle.st_tree.specs.Tokens.{Lexes}
+use Rattle.st_tree.specs.Token.{Lexes}
 use Rattle.st_lexer.proofs.lexer.behind_blanks.Given as goal
 
 abbrev pub invariant-blanks : goal.invariant-blanks

@@ -1,7 +1,7 @@
 use Rattle.std.proofs.Common.{◌≡◌, ◌≤◌, ◌-◌, false, [], length, drop}
 use Rattle.plc_text.specs.Lines.{line_of}
 use Rattle.plc_text.specs.Words.{begins, is_blank}
-use Rattle.st_tree.specs.Tokens.{Lexes}
+use Rattle.st_tree.specs.Token.{Lexes}
 use Rattle.st_lexer.proofs.lexer.next_from.Given as goal
 
 -- what was passed so far holds no token, and no white space comes next

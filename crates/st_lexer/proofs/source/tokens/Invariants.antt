@@ -1,5 +1,5 @@
 use Rattle.std.proofs.Common.{◌≡◌, ◌-◌, length, map}
-use Rattle.st_tree.specs.Tokens.{Lexes}
+use Rattle.st_tree.specs.Token.{Lexes}
 use Rattle.st_lexer.specs.Token.{token_view}
 use Rattle.st_lexer.proofs.source.tokens.Given as goal
 
