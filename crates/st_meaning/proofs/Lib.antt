@@ -1,2 +1,4 @@
 pub mod Builder
 pub mod Examples
+pub mod Ticks
+pub mod Faults
