@@ -5,3 +5,4 @@ pub mod Instances
 pub mod Hook
 pub mod Change
 pub mod OneThread
+pub mod Laws

@@ -2,3 +2,4 @@ pub mod Builder
 pub mod Examples
 pub mod Ticks
 pub mod Faults
+pub mod Footprints
