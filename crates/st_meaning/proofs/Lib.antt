@@ -1,2 +1,5 @@
 pub mod Builder
 pub mod Examples
+pub mod Ticks
+pub mod Faults
+pub mod Footprints

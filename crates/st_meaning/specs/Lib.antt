@@ -12,3 +12,4 @@ pub mod Good
 pub mod Use
 pub mod Footprint
 pub mod Promise
+pub mod Laws

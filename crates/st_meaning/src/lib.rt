@@ -1,4 +1,7 @@
-//! What a checked program means.
+//! What a checked program means: values and places of expressions, effects of statements, calls, cycles of tasks, good stores, and which
+//! regions a task touches.
 #![tactic(auto)]
 
-pub fn nothing() {}
+mod laws;
+
+pub use laws::{footprint_laws, run_laws};

@@ -1,0 +1,5 @@
+mod Hooks
+mod Marks
+mod Shrinks
+mod Stopped
+mod Lists

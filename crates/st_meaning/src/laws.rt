@@ -1,0 +1,17 @@
+//! Laws of the definitions.
+
+ghost use Rattle.st_meaning.specs.Laws.{TicksFall, LoopsUnroll, FaultsLeave, FootprintLaws};
+
+/// Ticks are never made, loops are their unrollings, and a cycle that faults leaves the store.
+pub fn run_laws()
+    ensures ticks { TicksFall }
+    ensures loops { LoopsUnroll }
+    ensures faults { FaultsLeave }
+{
+}
+
+/// What a task writes is in its footprint, and a cycle does not hang on how the footprint is listed.
+pub fn footprint_laws()
+    ensures { FootprintLaws }
+{
+}
