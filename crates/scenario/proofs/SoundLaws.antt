@@ -35,15 +35,19 @@ pub record EndRead (program : List ℕ) (sources : Sources) (p : Played) (lines 
   pub lines-are : lines ≡ replicate empty []
   pub is : q ≡ at_end program sources p
 
+end_more : (program : List ℕ) (sources : Sources) (p : Played) (line : List ℕ) (lines : Lines) (q : Reader) → line ≡ [] → EndRead program sources p lines q
+    → EndRead program sources p (line ∷ lines) q
+end_more program sources p line lines q none rest =
+    record { empty = suc rest.empty; lines-are = ap (λ (l : List ℕ). l ∷ lines) none ∙ ap (λ (ls : Lines). [] ∷ ls) rest.lines-are; is = rest.is }
+
 end_read : (program : List ℕ) (sources : Sources) (p : Played) (lines : Lines) (q : Reader) → run (at_end program sources p) lines ≡ Some q → EndRead program sources p lines q
 end_read program sources p [] q e = record { empty = 0; lines-are = refl; is = cc }
 end_read program sources p (line ∷ lines) q e =
     let next = bound (if same line [] then Some (at_end program sources p) else None) (λ r. run r lines) q e in
     let empty = chosen (same line []) (Some (at_end program sources p)) next.0 next.1 in
-    let none : line ≡ [] = (bytes_eq-Decides line []).0 empty.0 in
     let here : at_end program sources p ≡ next.0 = cc in
-    let rest = end_read program sources p lines q (subst (λ (r : Reader). run r lines ≡ Some q) (sym here) next.2) in
-    record { empty = suc rest.empty; lines-are = ap (λ (l : List ℕ). l ∷ lines) none ∙ ap (λ (ls : Lines). [] ∷ ls) rest.lines-are; is = rest.is }
+    end_more program sources p line lines q ((bytes_eq-Decides line []).0 empty.0)
+    (end_read program sources p lines q (subst (λ (r : Reader). run r lines ≡ Some q) (sym here) next.2))
 
 -- behind `@plays` and some plays
 abbrev synced : Lines → Lines
@@ -425,34 +429,52 @@ begun (line ∷ lines) q e done =
     let here : in_program [] ≡ next.0 = cc in
     (lines, ap (λ (l : List ℕ). l ∷ lines) ((bytes_eq-Decides line (codes "@program")).0 is.0), subst (λ (r : Reader). run r lines ≡ Some q) (sym here) next.2)
 
-pub is_scenario : (lines : Lines) (q : Reader) (held : Contents) → AllByRecursion IsUtf8 lines → run start lines ≡ Some q → outcome q.part q ≡ Some held → IsScenario lines held
-is_scenario lines q held utf8 e told =
-    let done = outcome_some q.part q held told in
-    let first = begun lines q e done.0 in
-    let p = program_read first.0 [] q first.2 done.0 in
-    let r = plays_read p.rest (text_of p.program) p.sources nothing_played q start_within p.run-is done.0 in
-    let played = r.first ++ flat_map synced r.further in
-    let contents : record { program = text_of p.program; sources = p.sources; plays = r.final.plays; phases = r.final.phases } ≡ held =
-    ap (λ (x : Reader). record { program = x.program; sources = x.sources; plays = x.played.plays; phases = x.played.phases }) (sym r.is) ∙ done.1 in
-    let whole : IsScenario lines (record { program = text_of p.program; sources = p.sources; plays = r.final.plays; phases = r.final.phases }) =
+regroup : (program sources first further tail : Lines) → codes "@program" ∷ (program ++ (sources ++ codes "@plays" ∷ (first ++ (further ++ tail))))
+    ≡ (((codes "@program" ∷ program) ++ sources) ++ codes "@plays" ∷ (first ++ further)) ++ tail
+regroup program sources first further tail =
+    let behind = codes "@plays" ∷ (first ++ further) in
+    sym (append_assoc ((codes "@program" ∷ program) ++ sources) behind tail ∙ append_assoc (codes "@program" ∷ program) sources (behind ++ tail)
+    ∙ ap (λ (ls : Lines). (codes "@program" ∷ program) ++ (sources ++ codes "@plays" ∷ ls)) (append_assoc first further tail))
+
+whole_split : (lines behind program sources rest first further tail : Lines) → lines ≡ codes "@program" ∷ behind → behind ≡ program ++ (sources ++ codes "@plays" ∷ rest)
+    → rest ≡ first ++ (further ++ tail) → lines ≡ (((codes "@program" ∷ program) ++ sources) ++ codes "@plays" ∷ (first ++ further)) ++ tail
+whole_split lines behind program sources rest first further tail a b c =
+    a ∙ ap (λ (ls : Lines). codes "@program" ∷ ls) b ∙ ap (λ (ls : Lines). codes "@program" ∷ (program ++ (sources ++ codes "@plays" ∷ ls))) c
+    ∙ regroup program sources first further tail
+
+-- what a reader has read of the program, the sources and the plays is a scenario
+read_all : (lines behind : Lines) (q : Reader) → AllByRecursion IsUtf8 lines → lines ≡ codes "@program" ∷ behind → (p : ProgramRead [] behind q)
+    → (r : PlaysRead (text_of p.program) p.sources nothing_played p.rest q)
+    → IsScenario lines (record { program = text_of p.program; sources = p.sources; plays = r.final.plays; phases = r.final.phases })
+read_all lines behind q utf8 e p r =
     record {
       program = p.program;
       sources = p.source-lines;
-      played = played;
+      played = r.first ++ flat_map synced r.further;
       empty = r.empty;
-      split = first.1 ∙ ap (λ (ls : Lines). codes "@program" ∷ ls) (p.lines-are ∙ ap (λ (ls : Lines). p.program ++ (p.source-lines ++ codes "@plays" ∷ ls)) r.lines-are)
-          ∙ regroup p.program p.source-lines r.first (flat_map synced r.further) (codes "@end" ∷ replicate r.empty []);
+      split = whole_split lines behind p.program p.source-lines p.rest r.first (flat_map synced r.further) (codes "@end" ∷ replicate r.empty []) e p.lines-are r.lines-are;
       utf8 = utf8;
       program-lines = p.program-lines;
       program-is = refl;
       sources-are = p.sources-are;
       played-are = all_played p.sources p.rest q (text_of p.program) r;
-    } in
-    subst (IsScenario lines) contents whole
-  where
-    regroup : (program sources first further tail : Lines) → codes "@program" ∷ (program ++ (sources ++ codes "@plays" ∷ (first ++ (further ++ tail))))
-        ≡ (((codes "@program" ∷ program) ++ sources) ++ codes "@plays" ∷ (first ++ further)) ++ tail
-    regroup program sources first further tail =
-        let behind = codes "@plays" ∷ (first ++ further) in
-        sym (append_assoc ((codes "@program" ∷ program) ++ sources) behind tail ∙ append_assoc (codes "@program" ∷ program) sources (behind ++ tail)
-        ∙ ap (λ (ls : Lines). (codes "@program" ∷ program) ++ (sources ++ codes "@plays" ∷ ls)) (append_assoc first further tail))
+    }
+
+held_so : (program : List ℕ) (sources : Sources) (final : Played) (q : Reader) (held : Contents) → q ≡ at_end program sources final
+    → record { program = q.program; sources = q.sources; plays = q.played.plays; phases = q.played.phases } ≡ held
+    → record { program = program; sources = sources; plays = final.plays; phases = final.phases } ≡ held
+held_so program sources final q held is told =
+    ap (λ (x : Reader). record { program = x.program; sources = x.sources; plays = x.played.plays; phases = x.played.phases }) (sym is) ∙ told
+
+read_held : (lines behind : Lines) (q : Reader) (held : Contents) → AllByRecursion IsUtf8 lines → lines ≡ codes "@program" ∷ behind
+    → record { program = q.program; sources = q.sources; plays = q.played.plays; phases = q.played.phases } ≡ held → (p : ProgramRead [] behind q)
+    → PlaysRead (text_of p.program) p.sources nothing_played p.rest q → IsScenario lines held
+read_held lines behind q held utf8 e told p r =
+    subst (IsScenario lines) (held_so (text_of p.program) p.sources r.final q held r.is told) (read_all lines behind q utf8 e p r)
+
+pub is_scenario : (lines : Lines) (q : Reader) (held : Contents) → AllByRecursion IsUtf8 lines → run start lines ≡ Some q → outcome q.part q ≡ Some held → IsScenario lines held
+is_scenario lines q held utf8 e told =
+    let done = outcome_some q.part q held told in
+    let first = begun lines q e done.0 in
+    let p = program_read first.0 [] q first.2 done.0 in
+    read_held lines first.0 q held utf8 first.1 done.1 p (plays_read p.rest (text_of p.program) p.sources nothing_played q start_within p.run-is done.0)
