@@ -1,2 +1,4 @@
 pub mod Examples
 pub mod Answers
+pub mod Names
+pub mod Paths
