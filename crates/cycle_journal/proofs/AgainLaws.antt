@@ -27,10 +27,11 @@ use Rattle.cycle_journal.specs.Play.{play_numbered, name_of, Named}
 use Rattle.cycle_journal.specs.Writing.{image, kind_text, answer_text, play_text, entry_text}
 use Rattle.cycle_journal.specs.Fits.{is_declaration, FitsAnswer, FitsEntry}
 use Rattle.plc_text.specs.Fields.{first_field, behind_field}
-use Rattle.cycle_journal.specs.Private.Candidate.{number_in, code_in, fault_kind_in, hex_in, outputs_in, done_in, ended_in, fault_in, kind_in, refusal_in, refused_in, answer_of, behind_play, answer_in, entry_in}
+use Rattle.plc_text.specs.Numbers.{number_in}
+use Rattle.cycle_journal.specs.Private.Candidate.{code_in, fault_kind_in, hex_in, outputs_in, done_in, ended_in, fault_in, kind_in, refusal_in, refused_in, answer_of, behind_play, answer_in, entry_in}
 use Rattle.plc_text.proofs.LineLaws.{HoldsNo}
 use Rattle.plc_text.proofs.FieldLaws.{first_field-space, behind_field-space, first_field-all, behind_field-all}
-use Rattle.plc_text.proofs.NumberLaws.{is_number-decimal, number-decimal}
+use Rattle.plc_text.proofs.NumberLaws.{number_in-decimal}
 use Rattle.cycle_journal.proofs.RefusalLaws.{refusal_again}
 use Rattle.cycle_journal.proofs.InkLaws.{Above, above_no, decimal_above, name_above, declaration_above, code_above, fault_above, IsBytes-from_all}
 
@@ -49,18 +50,6 @@ last_word word h = first_field-all word (unspaced word h)
 
 nothing_after : (word : List ℕ) → Above 32 word → behind_field word ≡ []
 nothing_after word h = behind_field-all word (unspaced word h)
-
--- numbers
-small : (n : ℕ) → n < 2 ^ 32 → nat_lt n (2 ^ 32) ≡ true
-small n h = grind (arith, nat_tests)
-
-pub number_again : (n : ℕ) → n < 2 ^ 32 → number_in (decimal n) ≡ Some n
-unfolding number_in
-number_again n h =
-    let is = is_number-decimal n (omega arith) in
-    let value = number-decimal n (omega arith) in
-    let fits = small n h in
-    rw (is, value, fits)
 
 -- codes and kinds of faults
 code_again : (code : Code) → code_in (code_name code) ≡ Some code
@@ -115,7 +104,7 @@ done_again : (ticks : ℕ) (outputs : List ℕ) → ticks < 2 ^ 32 → length ou
 unfolding done_in
 done_again ticks outputs ht l h =
     let text = decimal ticks ++ 32 ∷ image outputs in
-    let n : number_in (first_field text) ≡ Some ticks = ap number_in (first_word (decimal ticks) (image outputs) (decimal_above ticks)) ∙ number_again ticks ht in
+    let n : number_in (first_field text) ≡ Some ticks = ap number_in (first_word (decimal ticks) (image outputs) (decimal_above ticks)) ∙ number_in-decimal ticks ht in
     let bytes : outputs_in (behind_field text) ≡ Some outputs = ap outputs_in (after_word (decimal ticks) (image outputs) (decimal_above ticks)) ∙ outputs_again outputs l h in
     not_empty (decimal ticks) (image outputs) 32 ∙ rw (n, bytes)
 
@@ -125,7 +114,7 @@ fault_again fault h =
     let kind = first_word (fault_name fault.kind) (decimal fault.line) (fault_above fault.kind) in
     let line = after_word (fault_name fault.kind) (decimal fault.line) (fault_above fault.kind) in
     let again = fault_kind_again fault.kind in
-    let n = number_again fault.line h in
+    let n = number_in-decimal fault.line h in
     rw (kind, line, again, n)
 
 -- the word of a refusal's kind, where there is one
@@ -163,7 +152,7 @@ refusal_read r named fits =
     let twice : behind_field (behind_field text) ≡ line_text r = ap behind_field behind ∙ after_word r.declaration (line_text r) word in
     let code : code_in (first_field text) ≡ Some r.code = ap code_in (first_word (code_name r.code) (declaration_text r) (code_above r.code)) ∙ code_again r.code in
     let declaration : first_field (behind_field text) ≡ r.declaration = ap first_field behind ∙ first_word r.declaration (line_text r) word in
-    let line : number_in (first_field (behind_field (behind_field text))) ≡ Some r.line = ap (λ t. number_in (first_field t)) twice ∙ ap number_in (line_before_kind r.line r.kind) ∙ number_again r.line fits in
+    let line : number_in (first_field (behind_field (behind_field text))) ≡ Some r.line = ap (λ t. number_in (first_field t)) twice ∙ ap number_in (line_before_kind r.line r.kind) ∙ number_in-decimal r.line fits in
     let kind : kind_in (behind_field (behind_field (behind_field text))) ≡ Some r.kind = ap (λ t. kind_in (behind_field t)) twice ∙ ap kind_in (kind_after_line r.line r.kind) ∙ kind_again r.kind in
     rw (code, line, kind, declaration) (refusal_again r)
 
@@ -186,8 +175,8 @@ unfolding answer_of ended_in refused_in
 answer_again version (Done ticks outputs) h = ap ended_in (append_assoc (decimal ticks) (codes " ") (image outputs)) ∙ done_again ticks outputs h.0 h.1 h.2
 answer_again version (Fault fault) h = ap fault_in (append_assoc (fault_name fault.kind) (codes " ") (decimal fault.line)) ∙ fault_again fault h
 answer_again version Held h = refl
-answer_again version (NoTask since) h = let n = number_again since h in rw n
-answer_again version (Loaded next) h = let n = number_again next h.1 in rw n
+answer_again version (NoTask since) h = let n = number_in-decimal since h in rw n
+answer_again version (Loaded next) h = let n = number_in-decimal next h.1 in rw n
 answer_again version (Refused r) h =
     ap refused_in (refused_fields (code_name r.code) r.declaration (decimal r.line) (kind_text r.kind)) ∙ refused_again r h.0 h.1
 answer_again version RefusedMemory h = refl
@@ -238,9 +227,9 @@ entry_again plays e named h =
     let text = decimal e.version ++ 32 ∷ rest in
     let behind : behind_field text ≡ rest = after_word (decimal e.version) rest (decimal_above e.version) in
     let twice : behind_field (behind_field text) ≡ answer = ap behind_field behind ∙ after_word (decimal e.play) answer (decimal_above e.play) in
-    let version : number_in (first_field text) ≡ Some e.version = ap number_in (first_word (decimal e.version) rest (decimal_above e.version)) ∙ number_again e.version h.version-fits in
+    let version : number_in (first_field text) ≡ Some e.version = ap number_in (first_word (decimal e.version) rest (decimal_above e.version)) ∙ number_in-decimal e.version h.version-fits in
     let number : number_in (first_field (behind_field text)) ≡ Some e.play =
-    ap (λ t. number_in (first_field t)) behind ∙ ap number_in (first_word (decimal e.play) answer (decimal_above e.play)) ∙ number_again e.play h.play-fits in
+    ap (λ t. number_in (first_field t)) behind ∙ ap number_in (first_word (decimal e.play) answer (decimal_above e.play)) ∙ number_in-decimal e.play h.play-fits in
     let found = h.play-is in
     let read : answer_in h.play (behind_field (behind_field text)) ≡ Some e.answer =
     ap (answer_in h.play) (twice ∙ ap (λ p. play_text p ++ 32 ∷ answer_text e.answer) found) ∙ answer_read h.play e.version e.answer (named_play plays e.play h.play named found) h.answer-fits in

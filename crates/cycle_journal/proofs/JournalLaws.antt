@@ -14,19 +14,21 @@ use Rattle.cycle_journal.specs.declared.entry.Entry.{Entry}
 use Rattle.cycle_journal.specs.declared.entry.Answer.{Answer}
 use Rattle.cycle_journal.specs.declared.entry.Answer.TheVariants.{Done, Fault, Held, NoTask, Loaded, Refused, RefusedMemory, Released}
 use Rattle.plc_text.specs.Words.{is_upper_word}
-use Rattle.plc_text.specs.Lines.{lines_of, ended, text_of}
+use Rattle.plc_text.specs.Lines.{lines_of, ended, text_of, FirstBad}
 use Rattle.cycle_journal.specs.Play.{play_numbered, name_of, Named}
 use Rattle.cycle_journal.specs.Writing.{image, kind_text, answer_text, play_text, entry_text, journal_lines, journal_text}
 use Rattle.cycle_journal.specs.Fits.{FitsAnswer, FitsEntry, Fits}
 use Rattle.plc_text.specs.Fields.{first_field}
-use Rattle.cycle_journal.specs.Private.Candidate.{number_in, entry_in}
+use Rattle.plc_text.specs.Numbers.{number_in}
+use Rattle.cycle_journal.specs.Private.Candidate.{entry_in}
 use Rattle.cycle_journal.specs.declared.journal_error.JournalError.{JournalError}
 use Rattle.cycle_journal.specs.declared.journal_error.JournalError.TheVariants.{Bad, NoMemory}
-use Rattle.cycle_journal.specs.Reading.{OnBad, CanBegin, FirstBad, NoJournal}
+use Rattle.cycle_journal.specs.Reading.{OnBad, CanBegin, NoJournal}
 use Rattle.cycle_journal.specs.Private.Reading.{IsNoLine, Stops, AreEntries, end_line}
-use Rattle.plc_text.proofs.LineLaws.{HoldsNo, lines_of-text_of, text_of-last, text_of-lines_of, lines_few}
+use Rattle.plc_text.proofs.NumberLaws.{number_in-decimal}
+use Rattle.plc_text.proofs.LineLaws.{HoldsNo, lines_of-text_of, text_of-last, text_of-lines_of, lines_few, NoNext, first_bad}
 use Rattle.cycle_journal.proofs.InkLaws.{Above, above_append, above_no, above_less, decimal_above, name_above, declaration_above, image_above, code_above, fault_above}
-use Rattle.cycle_journal.proofs.AgainLaws.{entry_again, entry_fields, first_word, number_again, named_play}
+use Rattle.cycle_journal.proofs.AgainLaws.{entry_again, entry_fields, first_word, named_play}
 
 -- no LF stands in an entry's line
 
@@ -94,7 +96,7 @@ unfolding number_in
 entry_not_end plays e count h same =
     let first = first_word (decimal e.version) (decimal e.play ++ 32 ∷ (play_text (play_numbered plays e.play) ++ 32 ∷ answer_text e.answer)) (decimal_above e.version) in
     let word : decimal e.version ≡ codes "end" = sym first ∙ ap first_field (sym (entry_fields plays e) ∙ same) in
-    let number : Some e.version ≡ None = sym (number_again e.version h.version-fits) ∙ ap number_in word in
+    let number : Some e.version ≡ None = sym (number_in-decimal e.version h.version-fits) ∙ ap number_in word in
     cc
 
 -- a journal's text ends with LF
@@ -136,40 +138,8 @@ unfinished plays (x ∷ entries) (y ∷ others) last he apart same =
     let rest : map (entry_text plays) entries ≡ map (entry_text plays) others ++ last ∷ [] = cc in
     unfinished plays entries others last he.1 apart rest
 
--- behind lines that a journal can begin with, no journal goes on with the first of the rest
-abbrev pub NoNext : List Play → List (List ℕ) → List (List ℕ) → Type 0
-NoNext plays front [] = Unit {0}
-NoNext plays front (line ∷ more) = CanBegin plays (front ++ line ∷ []) → ⊥
-
-take_front : {X : Type 0} (front rest : List X) → take (length front) (front ++ rest) ≡ front
-take_front [] rest = refl
-take_front (x ∷ front) rest = ap (λ xs. x ∷ xs) (take_front front rest)
-
-take_one_more : {X : Type 0} (front rest : List X) (x : X) → take (suc (length front)) (front ++ x ∷ rest) ≡ front ++ x ∷ []
-take_one_more [] rest x = refl
-take_one_more (y ∷ front) rest x = ap (λ xs. y ∷ xs) (take_one_more front rest x)
-
-stops_behind : (plays : List Play) (lines front rest : List (List ℕ)) (line : ℕ) → lines ≡ front ++ rest → line ≡ suc (length front) → NoNext plays front rest
-    → line ≤ length lines → CanBegin plays (take line lines) → ⊥
-stops_behind plays lines front [] line split number none l can = omega (arith, ap length split, length-append front [])
-stops_behind plays lines front (next ∷ more) line split number none l can =
-    let taken : take line lines ≡ front ++ next ∷ [] = ap (λ n. take n lines) number ∙ ap (take (suc (length front))) split ∙ take_one_more front more next in
-    none (subst (CanBegin plays) taken can)
-
-first_bad : (plays : List Play) (lines front rest : List (List ℕ)) (line : ℕ) → lines ≡ front ++ rest → line ≡ suc (length front)
-    → CanBegin plays front → NoNext plays front rest → FirstBad plays lines line
-first_bad plays lines front rest line split number can none =
-    let before : line - 1 ≡ length front = omega arith in
-    let taken : take (line - 1) lines ≡ front = ap (λ n. take n lines) before ∙ ap (take (length front)) split ∙ take_front front rest in
-    record {
-      counted = omega arith;
-      within = omega (arith, ap length split, length-append front rest);
-      stands = subst (CanBegin plays) (sym taken) can;
-      stops = stops_behind plays lines front rest line split number none;
-    }
-
 -- no journal has a text whose lines go on as none does
-none_goes_on : (plays : List Play) (text : List ℕ) (front rest : List (List ℕ)) → lines_of text ≡ front ++ rest → NoNext plays front rest
+none_goes_on : (plays : List Play) (text : List ℕ) (front rest : List (List ℕ)) → lines_of text ≡ front ++ rest → NoNext (CanBegin plays) front rest
     → (rest ≡ [] → NoJournal plays text) → NoJournal plays text
 none_goes_on plays text front [] split none whole = whole refl
 none_goes_on plays text front (line ∷ more) split none whole = λ entries fit same.
@@ -177,12 +147,12 @@ none_goes_on plays text front (line ∷ more) split none whole = λ entries fit 
 
 -- what the reader answers at a line, where it holds of the text that the lines are those of
 abbrev pub IsBadAt : List Play → List ℕ → ℕ → Type 0
-IsBadAt plays text line = NoJournal plays text × FirstBad plays (lines_of text) line
+IsBadAt plays text line = NoJournal plays text × FirstBad (CanBegin plays) (lines_of text) line
 
 bad_at : (plays : List Play) (text : List ℕ) (front rest : List (List ℕ)) (line : ℕ) → lines_of text ≡ front ++ rest → line ≡ suc (length front)
-    → CanBegin plays front → NoNext plays front rest → (rest ≡ [] → NoJournal plays text) → IsBadAt plays text line
+    → CanBegin plays front → NoNext (CanBegin plays) front rest → (rest ≡ [] → NoJournal plays text) → IsBadAt plays text line
 bad_at plays text front rest line split number can none whole =
-    (none_goes_on plays text front rest split none whole, first_bad plays (lines_of text) front rest line split number can none)
+    (none_goes_on plays text front rest split none whole, first_bad (CanBegin plays) (lines_of text) front rest line split number can none)
 
 abbrev pub first_line : List ℕ
 first_line = codes "load 1"
@@ -197,7 +167,7 @@ begun_len plays entries = ap suc (length-map entries (entry_text plays))
 can_begin-entries : (plays : List Play) (entries : List Entry) → Named plays → Fits plays entries → CanBegin plays (begun plays entries)
 can_begin-entries plays entries named fit = (entries, end_line (length entries) ∷ [], fit, lines_of-journal plays entries named fit)
 
-no_next : (plays : List Play) (entries : List Entry) (rest : List (List ℕ)) → Named plays → Fits plays entries → IsNoLine plays (length entries) rest → NoNext plays (begun plays entries) rest
+no_next : (plays : List Play) (entries : List Entry) (rest : List (List ℕ)) → Named plays → Fits plays entries → IsNoLine plays (length entries) rest → NoNext (CanBegin plays) (begun plays entries) rest
 no_next plays entries [] named fit bad = tt
 no_next plays entries (line ∷ more) named fit bad = λ can.
     let whole : journal_lines plays can.0 ≡ (begun plays entries ++ line ∷ []) ++ can.1 = sym (lines_of-journal plays can.0 named can.2) ∙ can.3 in
@@ -221,7 +191,7 @@ bad_line plays text middle line named first s =
     (λ none. no_end plays text s.entries named s.fit (split ∙ ap (λ ls. begun plays s.entries ++ ls) none ∙ append-nil (begun plays s.entries)))
 
 -- a line behind the last
-no_more : (plays : List Play) (entries : List Entry) (after : List (List ℕ)) → Named plays → Fits plays entries → NoNext plays (journal_lines plays entries) after
+no_more : (plays : List Play) (entries : List Entry) (after : List (List ℕ)) → Named plays → Fits plays entries → NoNext (CanBegin plays) (journal_lines plays entries) after
 no_more plays entries [] named fit = tt
 no_more plays entries (line ∷ more) named fit = λ can.
     let last = end_line (length entries) in

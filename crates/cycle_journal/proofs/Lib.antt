@@ -1,5 +1,4 @@
 pub mod WritingLaws
-pub mod FieldLaws
 pub mod RefusalLaws
 pub mod InkLaws
 pub mod PaddingLaws

@@ -1,5 +1,5 @@
--- Which line of a text is the first that no journal has.
-use Rattle.std.specs.Prelude.{◌≡◌, ℕ, ◌+◌, ◌-◌, ◌<◌, ◌≤◌, List, ◌++◌, length, take}
+-- Which lines a journal begins with, and which texts are no journal's.
+use Rattle.std.specs.Prelude.{◌≡◌, ℕ, List, ◌++◌}
 use Rattle.plc_text.specs.Lines.{lines_of}
 use Rattle.cycle_journal.specs.declared.play.Play.{Play}
 use Rattle.cycle_journal.specs.declared.entry.Entry.{Entry}
@@ -11,14 +11,6 @@ use Rattle.cycle_journal.specs.Writing.{journal_text}
 -- some journal that fits the plays begins with these lines
 abbrev pub CanBegin : List Play → List (List ℕ) → Type 0
 CanBegin plays lines = (entries : List Entry) × (more : List (List ℕ)) × Fits plays entries × (lines_of (journal_text plays entries) ≡ lines ++ more)
-
--- Of these lines the one of this number is the first that no journal has behind the lines before it. Where all of them can
--- stand, it is the line behind them.
-pub record FirstBad (plays : List Play) (lines : List (List ℕ)) (line : ℕ) : Type 0 where
-  pub counted : 0 < line
-  pub within : line ≤ length lines + 1
-  pub stands : CanBegin plays (take (line - 1) lines)
-  pub stops : line ≤ length lines → CanBegin plays (take line lines) → ⊥
 
 -- no journal that fits the plays has this text
 abbrev pub NoJournal : List Play → List ℕ → Type 0

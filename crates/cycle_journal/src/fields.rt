@@ -1,7 +1,8 @@
 //! What the fields of a line stand for: numbers, codes, kinds of faults and bytes.
 
 ghost use Rattle.std.specs.Prelude.{◌≡◌, find};
-ghost use Rattle.cycle_journal.specs.Private.Candidate.{Gives, number_in, code_in, fault_kind_in, hex_in, outputs_in, kind_in};
+ghost use Rattle.plc_text.specs.Numbers.{number_in};
+ghost use Rattle.cycle_journal.specs.Private.Candidate.{Gives, code_in, fault_kind_in, hex_in, outputs_in, kind_in};
 
 use crate::line_error::LineError;
 use crate::outputs::Outputs;

@@ -6,8 +6,8 @@ ghost use Rattle.cycle_journal.specs.declared.play.Play.{Play as one_play};
 ghost use Rattle.cycle_journal.specs.Fits.{Fits, FitsEntry};
 ghost use Rattle.cycle_journal.specs.Play.{Named};
 ghost use Rattle.cycle_journal.specs.Writing.{entry_text, journal_text};
-ghost use Rattle.plc_text.specs.Lines.{lines_of};
-ghost use Rattle.cycle_journal.specs.Reading.{OnBad, NoJournal, FirstBad};
+ghost use Rattle.plc_text.specs.Lines.{lines_of, FirstBad};
+ghost use Rattle.cycle_journal.specs.Reading.{OnBad, NoJournal, CanBegin};
 ghost use Rattle.cycle_journal.specs.Private.Reading.{end_line, OnBadLine, IsNoEntry, Stops, AreEntries};
 
 use crate::candidate::candidate;
@@ -28,7 +28,7 @@ pub fn read_journal(alloc: Global, plays: &[Play], text: &str) -> Result<Items<E
     // The entries fit, and the text is theirs.
     ensures ok { IfOk result (λ entries. Fits plays.now entries × (text.now ≡ journal_text plays.now entries)) }
     // No entries that fit have the text, and the line is the first that no journal has behind the lines before it.
-    ensures bad { IfErr result (λ e. OnBad e (λ line. NoJournal plays.now text.now × FirstBad plays.now (lines_of text.now) line)) }
+    ensures bad { IfErr result (λ e. OnBad e (λ line. NoJournal plays.now text.now × FirstBad (CanBegin plays.now) (lines_of text.now) line)) }
 {
     let mut lines = Lines::new(text);
     if !takes_first(&mut lines) {

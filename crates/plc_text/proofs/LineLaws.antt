@@ -1,11 +1,11 @@
 -- A text is its lines, and a line of a text holds no LF.
-use Rattle.std.proofs.Common.{◌≡◌, ◌≢◌, ℕ, suc, ◌<◌, ◌≤◌, eqb, Bool, true, false, List, [], ◌∷◌, ◌++◌, length, map, get_or, refl, sym, ap, ◌∙◌, arith, append_assoc, length-append}
+use Rattle.std.proofs.Common.{◌≡◌, ◌≢◌, ℕ, suc, ◌-◌, ◌<◌, ◌≤◌, eqb, Bool, true, false, List, [], ◌∷◌, ◌++◌, length, map, take, get_or, refl, sym, ap, ◌∙◌, subst, arith, append_assoc, length-append}
 use Rattle.std.specs.Prelude.{nat_eq, if◌then◌else◌}
 use Rattle.std.proofs.lemmas.Bool.Decides.{nat_tests}
 use Rattle.std.proofs.lemmas.List.{append-nil}
 use Rattle.std.proofs.lemmas.List.Elements.{recursion_from_All, All-from_get_or}
 use Rattle.std.specs.List.{AllByRecursion, flat_map}
-use Rattle.plc_text.specs.Lines.{lines_of, begun_with, ended, text_of}
+use Rattle.plc_text.specs.Lines.{lines_of, begun_with, ended, text_of, FirstBad}
 
 -- the text of lines that are made of items, and of one more
 pub text_of-last : {X : Type 0} (line : X → List ℕ) (xs : List X) (last : List ℕ)
@@ -81,3 +81,35 @@ lines_few_from b lines n l false = omega (arith, begun_few b lines)
 pub lines_few : (text : List ℕ) → length (lines_of text) ≤ length text
 lines_few [] = omega arith
 lines_few (b ∷ text) = lines_few_from b (lines_of text) (length text) (lines_few text) (nat_eq b 10)
+
+-- behind these lines, with which something begins, nothing goes on with the first of the rest
+abbrev pub NoNext : (List (List ℕ) → Type 0) → List (List ℕ) → List (List ℕ) → Type 0
+NoNext CanBegin front [] = Unit {0}
+NoNext CanBegin front (line ∷ more) = CanBegin (front ++ line ∷ []) → ⊥
+
+take_front : {X : Type 0} (front rest : List X) → take (length front) (front ++ rest) ≡ front
+take_front [] rest = refl
+take_front (x ∷ front) rest = ap (λ xs. x ∷ xs) (take_front front rest)
+
+take_one_more : {X : Type 0} (front rest : List X) (x : X) → take (suc (length front)) (front ++ x ∷ rest) ≡ front ++ x ∷ []
+take_one_more [] rest x = refl
+take_one_more (y ∷ front) rest x = ap (λ xs. y ∷ xs) (take_one_more front rest x)
+
+stops_behind : (CanBegin : List (List ℕ) → Type 0) (lines front rest : List (List ℕ)) (line : ℕ) → lines ≡ front ++ rest → line ≡ suc (length front)
+    → NoNext CanBegin front rest → line ≤ length lines → CanBegin (take line lines) → ⊥
+stops_behind CanBegin lines front [] line split number none l can = omega (arith, ap length split, length-append front [])
+stops_behind CanBegin lines front (next ∷ more) line split number none l can =
+    let taken : take line lines ≡ front ++ next ∷ [] = ap (λ n. take n lines) number ∙ ap (take (suc (length front))) split ∙ take_one_more front more next in
+    none (subst CanBegin taken can)
+
+pub first_bad : (CanBegin : List (List ℕ) → Type 0) (lines front rest : List (List ℕ)) (line : ℕ) → lines ≡ front ++ rest → line ≡ suc (length front)
+    → CanBegin front → NoNext CanBegin front rest → FirstBad CanBegin lines line
+first_bad CanBegin lines front rest line split number can none =
+    let before : line - 1 ≡ length front = omega arith in
+    let taken : take (line - 1) lines ≡ front = ap (λ n. take n lines) before ∙ ap (take (length front)) split ∙ take_front front rest in
+    record {
+      counted = omega arith;
+      within = omega (arith, ap length split, length-append front rest);
+      stands = subst CanBegin (sym taken) can;
+      stops = stops_behind CanBegin lines front rest line split number none;
+    }

@@ -4,37 +4,13 @@ use Rattle.std.proofs.lemmas.Bool.{and_left, and_right, cases_Bool, cond-true, c
 use Rattle.std.proofs.lemmas.Bool.Decides.{nat_tests}
 use Rattle.std.specs.List.{list_all, prefix_len}
 use Rattle.std.specs.Char.{to_ascii_uppercase}
-use Rattle.plc_text.specs.Words.{opens, is_blank, is_digit, is_binary_digit, is_octal_digit, is_hexadecimal_digit, is_number}
-use Rattle.st_tree.specs.Pieces.{is_white_space, ends_first, is_comment, is_no_line_feed, is_pragma, are_spaced, are_split, is_bit_place, is_int, is_time, is_address, is_location, opens_one_of, is_point, are_parts, units}
-use Rattle.st_lexer.specs.Fronts.{IsLongest}
-use Rattle.st_lexer.specs.Reach.{with_head, closing_from, white_len, block_len, line_len, comment_len, pragma_len, based_len, int_len, bit_len, wide_len, bit_with_width_len, location_len, address_len, timed_len, time_len}
+use Rattle.plc_text.specs.Words.{opens, is_digit, is_binary_digit, is_octal_digit, is_hexadecimal_digit, is_number}
+use Rattle.st_tree.specs.Pieces.{ends_first, is_comment, is_no_line_feed, is_pragma, are_spaced, are_split, is_bit_place, is_int, is_time, is_address, is_location, opens_one_of, is_point, are_parts, units}
+use Rattle.st_lexer.specs.Private.Piece.{IsLongest}
+use Rattle.st_lexer.specs.Private.Reach.{with_head, closing_from, block_len, line_len, comment_len, pragma_len, based_len, int_len, bit_len, wide_len, bit_with_width_len, location_len, address_len, timed_len, time_len}
 use Rattle.st_lexer.proofs.HeadLaws.{with_head_some, IsHead, word_head, either_head, no_head, front_without, front_any, front_some, either}
 use Rattle.st_lexer.proofs.RunLaws.{with_heads, nil_none, cons_none, cons_some, run_front, number_front, closing_front, digits_front}
 use Rattle.st_lexer.proofs.PartLaws.{parts_front}
-
--- white space
-
-pub white_front : (text : List ℕ) → IsLongest is_white_space text (white_len text)
-white_front [] = nil_none _
-white_front (c ∷ cs) = elim (cases_Bool (is_blank c)) [
-  | inl blank ↦ rw (cond-true {A = ℕ} (is_blank c) 1 0 blank) (record {
-    within = omega arith;
-    passes = λ p. blank;
-    longest = longest cs;
-  })
-  | inr other ↦ rw (cond-false {A = ℕ} (is_blank c) 1 0 other) (cons_none is_white_space c cs (fails cs other))
-]
-  where
-    longest : (cs : List ℕ) (m : ℕ) → 1 < m → m ≤ length (c ∷ cs) → is_white_space (take m (c ∷ cs)) ≡ false
-    longest cs zero past within = absurd (omega arith)
-    longest cs (suc zero) past within = absurd (omega arith)
-    longest [] (suc (suc m)) past within = absurd (omega arith)
-    longest (d ∷ cs) (suc (suc m)) past within = refl
-
-    fails : (cs : List ℕ) → is_blank c ≡ false → (m : ℕ) → m ≤ length cs → is_white_space (c ∷ take m cs) ≡ false
-    fails cs other zero within = other
-    fails [] other (suc m) within = absurd (omega arith)
-    fails (d ∷ cs) other (suc m) within = refl
 
 -- heads and tails that may not be empty
 
@@ -182,3 +158,8 @@ timed_front head text = choose (opens head) (are_parts units) (length head) text
 pub time_front : (text : List ℕ) → IsLongest is_time text (time_len text)
 unfolding is_time
 time_front text = either _ _ text _ _ (timed_front (codes "T#") text) (timed_front (codes "TIME#") text)
+
+pub no_pragma_nil : (text : List ℕ) → length text ≡ 0 → is_pragma text ≡ false
+unfolding is_pragma
+no_pragma_nil [] e = refl
+no_pragma_nil (c ∷ cs) e = absurd (omega arith)

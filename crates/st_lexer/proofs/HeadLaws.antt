@@ -5,8 +5,8 @@ use Rattle.std.proofs.lemmas.Bool.{and_from, and_left, and_right, or_from, or_le
 use Rattle.std.specs.Char.{to_ascii_uppercase}
 use lib.Pointwise.{pointwise_long}
 use Rattle.plc_text.specs.Words.{spells, opens}
-use Rattle.st_lexer.specs.Fronts.{IsLongest, IsLongestFront}
-use Rattle.st_lexer.specs.Reach.{with_head}
+use Rattle.st_lexer.specs.Private.Piece.{IsLongest, IsLongestFront}
+use Rattle.st_lexer.specs.Private.Reach.{with_head}
 
 pub with_head_some : (k n : ℕ) → 0 < n → with_head k n ≡ k + n
 with_head_some k n some = cond-false _ _ _ (ne_eqb n 0 (λ e. omega arith))

@@ -1,81 +1,145 @@
--- The declaration, told by going once through the tokens.
-use Rattle.std.proofs.Common.{◌≡◌, ℕ, Bool, true, false, ◌&&◌, not, List, [], ◌∷◌, refl, sym, ap, ◌∙◌, inl, inr, cond, codes, filter, arith}
-use Rattle.std.proofs.lemmas.Bool.{and_parts, and_left, and_right, both_ways, cases_Bool, cond-true, cond-false, not_from_true, not_from_false}
-use Rattle.std.specs.Str.{IsUtf8}
-use Rattle.std.proofs.lemmas.Str.Ascii.{IsAscii-nil, IsAscii-cons}
-use Rattle.std.proofs.lemmas.Str.{IsUtf8-from_ascii}
+-- The last heading, sought from the end.
+use Rattle.std.proofs.Common.{◌≡◌, ◌⊎◌, inl, inr, ℕ, ◌+◌, ◌-◌, ◌<◌, ◌≤◌, true, false, List, [], ◌∷◌, ◌++◌, length, take, drop, map, get_or, Option, Some, None, refl, sym, ap, ◌∙◌, cond, codes, arith}
+use Rattle.std.specs.Option.{option_or, option_map_or}
+use Rattle.std.proofs.lemmas.Bool.{cond-true, cond-false}
+use Rattle.std.proofs.lemmas.List.{drop_more, take-append-drop, take_rest, map-append}
 use Rattle.plc_text.specs.Text.{folded}
-use Rattle.st_tree.specs.declared.token.TokenKind.{TokenKind}
-use Rattle.st_tree.specs.declared.token.TokenKind.TheVariants.{Word, Keyword, Int, Time, Address, Symbol, Mark}
-use Rattle.st_tree.specs.Tokens.{Token}
-use Rattle.st_tree.specs.Headings.{is_word_kind, is_keyword_kind, is_mark_kind, is_heading, is_modifier, name_behind, last_name, is_no_mark}
+use Rattle.st_tree.specs.declared.terminal.Terminal.{Terminal}
+use Rattle.st_tree.specs.declared.marks.Marks.{Marks}
+use Rattle.st_tree.specs.Token.{Token}
+use Rattle.st_lexer.specs.declared.token.Token.{Token as Lexed}
+use Rattle.st_lexer.specs.Token.{token_view}
+use Rattle.st_tree.specs.Grammar.{Lexeme}
+use Rattle.st_tree.specs.Reads.{terminal_of, no_marks, with_mark, lexeme_of, either_way, lexemes_behind, lexemes}
+use Rattle.st_tree.specs.Headings.{is_heading, is_modifier, is_word, name_at, behind_heading, declaration_before}
 
--- the name so far, and whether the name of a heading is still to come
-abbrev pub scan : List ℕ → Bool → List Token → List ℕ
-scan name waits [] = name
-scan name waits (t ∷ ts) =
-    cond (is_heading t) (scan (codes "-") true ts)
-    (cond (waits && (not (is_mark_kind t.kind) && not (is_modifier t))) (scan (cond (is_word_kind t.kind) (folded t.text) name) false ts)
-    (scan name waits ts))
+-- what a token is to the grammar
+abbrev pub terminal_at : Token → Option Terminal
+terminal_at t = terminal_of t.kind (folded t.text)
 
-keyword_no_mark : (kind : TokenKind) → is_keyword_kind kind ≡ true → not (is_mark_kind kind) ≡ true
-keyword_no_mark Keyword h = refl
-keyword_no_mark Word h = absurd (both_ways false refl h)
-keyword_no_mark Int h = absurd (both_ways false refl h)
-keyword_no_mark Time h = absurd (both_ways false refl h)
-keyword_no_mark Address h = absurd (both_ways false refl h)
-keyword_no_mark Symbol h = absurd (both_ways false refl h)
-keyword_no_mark Mark h = absurd (both_ways false refl h)
+-- the lexemes with a mark or a lexeme in front
+behind_mark : (m : Marks) (t : Token) (ts : List Token) → terminal_at t ≡ None → lexemes_behind m (t ∷ ts) ≡ lexemes_behind (with_mark m t.text) ts
+behind_mark m t ts e = ap (λ o. either_way o t m (lexemes_behind (with_mark m t.text) ts) (lexemes_behind no_marks ts)) e
 
-heading_no_mark : (t : Token) → is_heading t ≡ true → is_no_mark t ≡ true
-heading_no_mark t h = keyword_no_mark t.kind (and_parts (is_keyword_kind t.kind) _ h).0
+with_lexeme : (m : Marks) (t : Token) (ts : List Token) (s : Terminal) → terminal_at t ≡ Some s → lexemes_behind m (t ∷ ts) ≡ lexeme_of s t m ∷ lexemes ts
+with_lexeme m t ts s e = ap (λ o. either_way o t m (lexemes_behind (with_mark m t.text) ts) (lexemes_behind no_marks ts)) e
 
-abbrev unmarked : List Token → List Token
-unmarked ts = filter is_no_mark ts
+-- what stands behind the last heading of all
+abbrev found : List Lexeme → Option (List Lexeme)
+found ls = behind_heading (length ls) ls
 
--- the names that are found from a place on
-abbrev Scans : List Token → Type 0
-Scans ts = ((name : List ℕ) → scan name false ts ≡ last_name name (unmarked ts)) × (scan (codes "-") true ts ≡ last_name (name_behind (unmarked ts)) (unmarked ts))
-
-heading_step : (t : Token) (ts : List Token) → is_heading t ≡ true → Scans ts → Scans (t ∷ ts)
-heading_step t ts h rest =
-    let e : unmarked (t ∷ ts) ≡ t ∷ unmarked ts = cond-true (is_no_mark t) _ _ (heading_no_mark t h) in (
-      λ name. cond-true (is_heading t) _ _ h ∙ rest.1
-          ∙ ap (λ b. last_name (cond b (name_behind (unmarked ts)) name) (unmarked ts)) (sym h) ∙ ap (last_name name) (sym e),
-      cond-true (is_heading t) _ _ h ∙ rest.1
-          ∙ ap (λ b. last_name (cond b (name_behind (unmarked ts)) (name_behind (t ∷ unmarked ts))) (unmarked ts)) (sym h) ∙ ap (λ xs. last_name (name_behind xs) xs) (sym e),
-    )
-
-mark_step : (t : Token) (ts : List Token) → is_heading t ≡ false → is_no_mark t ≡ false → Scans ts → Scans (t ∷ ts)
-mark_step t ts h m rest =
-    let e : unmarked (t ∷ ts) ≡ unmarked ts = cond-false (is_no_mark t) _ _ m in (
-      λ name. cond-false (is_heading t) _ _ h ∙ rest.0 name ∙ ap (last_name name) (sym e),
-      cond-false (is_heading t) _ _ h ∙ cond-false (not (is_mark_kind t.kind) && not (is_modifier t)) _ _ (and_left _ _ m) ∙ rest.1 ∙ ap (λ xs. last_name (name_behind xs) xs) (sym e),
-    )
-
-other_step : (t : Token) (ts : List Token) → is_heading t ≡ false → is_no_mark t ≡ true → Scans ts → Scans (t ∷ ts)
-other_step t ts h m rest =
-    let e : unmarked (t ∷ ts) ≡ t ∷ unmarked ts = cond-true (is_no_mark t) _ _ m in (
-      λ name. cond-false (is_heading t) _ _ h ∙ rest.0 name ∙ sym (ap (λ b. last_name (cond b (name_behind (unmarked ts)) name) (unmarked ts)) h) ∙ ap (last_name name) (sym e),
-      cond-false (is_heading t) _ _ h ∙ waiting (is_modifier t) refl
-          ∙ sym (ap (λ b. last_name (cond b (name_behind (unmarked ts)) (name_behind (t ∷ unmarked ts))) (unmarked ts)) h) ∙ ap (λ xs. last_name (name_behind xs) xs) (sym e),
-    )
+cases_terminal : (t : Token) → (terminal_at t ≡ None) ⊎ ((s : Terminal) × (terminal_at t ≡ Some s))
+cases_terminal t = cases (terminal_at t) refl
   where
-    waiting : (b : Bool) → is_modifier t ≡ b → cond (not (is_mark_kind t.kind) && not (is_modifier t)) (scan (cond (is_word_kind t.kind) (folded t.text) (codes "-")) false ts) (scan (codes "-") true ts) ≡ last_name (name_behind (t ∷ unmarked ts)) (unmarked ts)
-    waiting true modifies =
-        cond-false (not (is_mark_kind t.kind) && not (is_modifier t)) _ _ (and_right _ _ (not_from_true _ modifies))
-        ∙ rest.1 ∙ ap (λ name. last_name name (unmarked ts)) (sym (cond-true (is_modifier t) _ _ modifies))
-    waiting false names =
-        ap (λ b. cond (b && not (is_modifier t)) (scan (cond (is_word_kind t.kind) (folded t.text) (codes "-")) false ts) (scan (codes "-") true ts)) m
-        ∙ cond-true (not (is_modifier t)) _ _ (not_from_false _ names)
-        ∙ rest.0 _ ∙ ap (λ name. last_name name (unmarked ts)) (sym (cond-false (is_modifier t) _ _ names))
+    cases : (o : Option Terminal) → terminal_at t ≡ o → (terminal_at t ≡ None) ⊎ ((s : Terminal) × (terminal_at t ≡ Some s))
+    cases None e = inl e
+    cases (Some s) e = inr (s, e)
 
-pub scans : (ts : List Token) → Scans ts
-scans [] = (λ name. refl, refl)
-scans (t ∷ ts) = elim (cases_Bool (is_heading t)) [
-  | inl h ↦ heading_step t ts h (scans ts)
-  | inr h ↦ elim (cases_Bool (is_no_mark t)) [ inl m ↦ other_step t ts h m (scans ts) | inr m ↦ mark_step t ts h m (scans ts) ]
+-- marks change nothing
+marks_apart : (m n : Marks) (ts : List Token) → found (lexemes_behind m ts) ≡ found (lexemes_behind n ts)
+marks_apart m n [] = refl
+marks_apart m n (t ∷ ts) = elim (cases_terminal t) [
+  | inl e ↦ ap found (behind_mark m t ts e) ∙ marks_apart (with_mark m t.text) (with_mark n t.text) ts ∙ sym (ap found (behind_mark n t ts e))
+  | inr e ↦ ap found (with_lexeme m t ts e.0 e.1) ∙ sym (ap found (with_lexeme n t ts e.0 e.1))
 ]
 
-pub dash_text : IsUtf8 (codes "-")
-dash_text = IsUtf8-from_ascii (codes "-") (IsAscii-cons 45 [] (omega arith) IsAscii-nil)
+name_apart : (m n : Marks) (ts : List Token) → name_at (lexemes_behind m ts) ≡ name_at (lexemes_behind n ts)
+name_apart m n [] = refl
+name_apart m n (t ∷ ts) = elim (cases_terminal t) [
+  | inl e ↦ ap name_at (behind_mark m t ts e) ∙ name_apart (with_mark m t.text) (with_mark n t.text) ts ∙ sym (ap name_at (behind_mark n t ts e))
+  | inr e ↦ ap name_at (with_lexeme m t ts e.0 e.1) ∙ sym (ap name_at (with_lexeme n t ts e.0 e.1))
+]
+
+-- a token that is no heading before tokens with none
+abbrev pub Quiet : List Token → Type 0
+Quiet ts = found (lexemes ts) ≡ None
+
+pub quiet_mark : (t : Token) (ts : List Token) → terminal_at t ≡ None → Quiet ts → Quiet (t ∷ ts)
+quiet_mark t ts e q = ap found (behind_mark no_marks t ts e) ∙ marks_apart (with_mark no_marks t.text) no_marks ts ∙ q
+
+pub quiet_other : (t : Token) (ts : List Token) (s : Terminal) → terminal_at t ≡ Some s → is_heading s ≡ false → Quiet ts → Quiet (t ∷ ts)
+quiet_other t ts s e other q =
+    ap found (with_lexeme no_marks t ts s e)
+    ∙ ap (λ o. option_or o (cond (is_heading s) (Some (lexemes ts)) None)) q
+    ∙ cond-false (is_heading s) _ _ other
+
+-- a heading before tokens with none, and whatever stands before it
+heading_found : (m : Marks) (t : Token) (ts : List Token) (s : Terminal) → terminal_at t ≡ Some s → is_heading s ≡ true → Quiet ts → found (lexemes_behind m (t ∷ ts)) ≡ Some (lexemes ts)
+heading_found m t ts s e heading q =
+    ap found (with_lexeme m t ts s e)
+    ∙ ap (λ o. option_or o (cond (is_heading s) (Some (lexemes ts)) None)) q
+    ∙ cond-true (is_heading s) _ _ heading
+
+found_before : (m : Marks) (xs ts : List Token) (rest : List Lexeme) → ((n : Marks) → found (lexemes_behind n ts) ≡ Some rest) → found (lexemes_behind m (xs ++ ts)) ≡ Some rest
+found_before m [] ts rest h = h m
+found_before m (x ∷ xs) ts rest h = elim (cases_terminal x) [
+  | inl e ↦ ap found (behind_mark m x (xs ++ ts) e) ∙ found_before (with_mark m x.text) xs ts rest h
+  | inr e ↦
+      ap found (with_lexeme m x (xs ++ ts) e.0 e.1)
+      ∙ ap (λ o. option_or o (cond (is_heading e.0) (Some (lexemes (xs ++ ts))) None)) (found_before no_marks xs ts rest h)
+]
+
+pub last_heading : (xs ts : List Token) (t : Token) (s : Terminal) → terminal_at t ≡ Some s → is_heading s ≡ true → Quiet ts → declaration_before (xs ++ t ∷ ts) ≡ name_at (lexemes ts)
+last_heading xs ts t s e heading q = ap (λ o. option_map_or name_at o (codes "-")) (found_before no_marks xs (t ∷ ts) (lexemes ts) (λ n. heading_found n t ts s e heading q))
+
+-- the name at the front
+
+pub name_mark : (t : Token) (ts : List Token) → terminal_at t ≡ None → name_at (lexemes (t ∷ ts)) ≡ name_at (lexemes ts)
+name_mark t ts e = ap name_at (behind_mark no_marks t ts e) ∙ name_apart (with_mark no_marks t.text) no_marks ts
+
+pub name_modifier : (t : Token) (ts : List Token) (s : Terminal) → terminal_at t ≡ Some s → is_modifier s ≡ true → name_at (lexemes (t ∷ ts)) ≡ name_at (lexemes ts)
+name_modifier t ts s e h = ap name_at (with_lexeme no_marks t ts s e) ∙ cond-true (is_modifier s) _ _ h
+
+pub name_word : (t : Token) (ts : List Token) (s : Terminal) → terminal_at t ≡ Some s → is_modifier s ≡ false → is_word s ≡ true → name_at (lexemes (t ∷ ts)) ≡ folded t.text
+name_word t ts s e h w = ap name_at (with_lexeme no_marks t ts s e) ∙ cond-false (is_modifier s) _ _ h ∙ cond-true (is_word s) _ _ w
+
+pub name_other : (t : Token) (ts : List Token) (s : Terminal) → terminal_at t ≡ Some s → is_modifier s ≡ false → is_word s ≡ false → name_at (lexemes (t ∷ ts)) ≡ codes "-"
+name_other t ts s e h w = ap name_at (with_lexeme no_marks t ts s e) ∙ cond-false (is_modifier s) _ _ h ∙ cond-false (is_word s) _ _ w
+
+-- ---- the code's tokens
+
+cell : (ts : List Lexed) (k : ℕ) (t : Lexed) → k < length ts → t ≡ get_or ts k t → drop k ts ≡ t ∷ drop (k + 1) ts
+cell ts k t within is = drop_more ts k t within ∙ ap (λ x. x ∷ drop (k + 1) ts) (sym is)
+
+views : (ts : List Lexed) (k : ℕ) (t : Lexed) → k < length ts → t ≡ get_or ts k t → map token_view ts ≡ map token_view (take k ts) ++ token_view t ∷ map token_view (drop (k + 1) ts)
+views ts k t within is =
+    ap (map token_view) (sym (take-append-drop k ts)) ∙ map-append token_view (take k ts) (drop k ts)
+    ∙ ap (λ xs. map token_view (take k ts) ++ map token_view xs) (cell ts k t within is)
+
+pub found_here : (ts : List Lexed) (p : ℕ) (t : Lexed) (s : Terminal) (name : List ℕ) → 0 < p → p ≤ length ts → t ≡ get_or ts (p - 1) t → t.terminal ≡ Some s → is_heading s ≡ true → Quiet (map token_view (drop p ts))
+    → name ≡ name_at (lexemes (map token_view (take (length ts - (p - 1 + 1)) (drop (p - 1 + 1) ts)))) → name ≡ declaration_before (map token_view ts)
+found_here ts p t s name some within is e heading quiet n =
+    let back : p - 1 + 1 ≡ p = omega arith in
+    let quiet' : Quiet (map token_view (drop (p - 1 + 1) ts)) = rw back quiet in
+    n ∙ ap (λ xs. name_at (lexemes (map token_view xs))) (take_rest ts (p - 1 + 1))
+    ∙ sym (last_heading (map token_view (take (p - 1) ts)) (map token_view (drop (p - 1 + 1) ts)) (token_view t) s (sym t.told ∙ e) heading quiet')
+    ∙ sym (ap declaration_before (views ts (p - 1) t (omega arith) is))
+
+front_quiet : (ts : List Lexed) (p : ℕ) (t : Lexed) → 0 < p → p ≤ length ts → t ≡ get_or ts (p - 1) t → Quiet (token_view t ∷ map token_view (drop p ts)) → Quiet (map token_view (drop (p - 1) ts))
+front_quiet ts p t some within is q =
+    let back : p - 1 + 1 ≡ p = omega arith in
+    let e : drop (p - 1) ts ≡ t ∷ drop p ts = cell ts (p - 1) t (omega arith) is ∙ ap (λ k. t ∷ drop k ts) back in
+    rw e q
+
+pub quiet_step_mark : (ts : List Lexed) (p : ℕ) (t : Lexed) → 0 < p → p ≤ length ts → t ≡ get_or ts (p - 1) t → t.terminal ≡ None → Quiet (map token_view (drop p ts)) → Quiet (map token_view (drop (p - 1) ts))
+quiet_step_mark ts p t some within is e q = front_quiet ts p t some within is (quiet_mark (token_view t) (map token_view (drop p ts)) (sym t.told ∙ e) q)
+
+pub quiet_step_other : (ts : List Lexed) (p : ℕ) (t : Lexed) (s : Terminal) → 0 < p → p ≤ length ts → t ≡ get_or ts (p - 1) t → t.terminal ≡ Some s → is_heading s ≡ false → Quiet (map token_view (drop p ts)) → Quiet (map token_view (drop (p - 1) ts))
+quiet_step_other ts p t s some within is e other q = front_quiet ts p t some within is (quiet_other (token_view t) (map token_view (drop p ts)) s (sym t.told ∙ e) other q)
+
+-- the name at a place
+
+name_there : (ts : List Lexed) (k : ℕ) (t : Lexed) → k < length ts → t ≡ get_or ts k t → name_at (lexemes (map token_view (drop k ts))) ≡ name_at (lexemes (token_view t ∷ map token_view (drop (k + 1) ts)))
+name_there ts k t within is = ap (λ xs. name_at (lexemes (map token_view xs))) (cell ts k t within is)
+
+pub name_past_mark : (ts : List Lexed) (k : ℕ) (t : Lexed) → k < length ts → t ≡ get_or ts k t → t.terminal ≡ None → name_at (lexemes (map token_view (drop (k + 1) ts))) ≡ name_at (lexemes (map token_view (drop k ts)))
+name_past_mark ts k t within is e = sym (name_there ts k t within is ∙ name_mark (token_view t) (map token_view (drop (k + 1) ts)) (sym t.told ∙ e))
+
+pub name_past_modifier : (ts : List Lexed) (k : ℕ) (t : Lexed) (s : Terminal) → k < length ts → t ≡ get_or ts k t → t.terminal ≡ Some s → is_modifier s ≡ true → name_at (lexemes (map token_view (drop (k + 1) ts))) ≡ name_at (lexemes (map token_view (drop k ts)))
+name_past_modifier ts k t s within is e h = sym (name_there ts k t within is ∙ name_modifier (token_view t) (map token_view (drop (k + 1) ts)) s (sym t.told ∙ e) h)
+
+pub name_of_word : (ts : List Lexed) (k : ℕ) (t : Lexed) (s : Terminal) → k < length ts → t ≡ get_or ts k t → t.terminal ≡ Some s → is_modifier s ≡ false → is_word s ≡ true → folded t.text.now ≡ name_at (lexemes (map token_view (drop k ts)))
+name_of_word ts k t s within is e h w = sym (name_there ts k t within is ∙ name_word (token_view t) (map token_view (drop (k + 1) ts)) s (sym t.told ∙ e) h w)
+
+pub name_of_other : (ts : List Lexed) (k : ℕ) (t : Lexed) (s : Terminal) → k < length ts → t ≡ get_or ts k t → t.terminal ≡ Some s → is_modifier s ≡ false → is_word s ≡ false → codes "-" ≡ name_at (lexemes (map token_view (drop k ts)))
+name_of_other ts k t s within is e h w = sym (name_there ts k t within is ∙ name_other (token_view t) (map token_view (drop (k + 1) ts)) s (sym t.told ∙ e) h w)

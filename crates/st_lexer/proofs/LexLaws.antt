@@ -1,17 +1,23 @@
 -- Chains of pieces, step by step.
-use Rattle.std.proofs.Common.{◌≡◌, ℕ, ◌+◌, ◌-◌, ◌<◌, ◌≤◌, cond, List, [], ◌∷◌, ◌++◌, length, take, drop, refl, sym, ap, subst, ◌∙◌, Option, None, Some, length-drop, arith}
-use Rattle.std.proofs.lemmas.List.{drop-drop, drop-take, take-take, take-append-drop, take_rest}
-use Rattle.std.specs.List.{slice_range, cons_option, count_by}
+use Rattle.std.proofs.Common.{◌≡◌, ℕ, ◌+◌, ◌-◌, ◌<◌, ◌≤◌, cond, List, [], ◌∷◌, ◌++◌, length, take, drop, get_or, refl, sym, ap, subst, ◌∙◌, Option, None, Some, length-drop, Bool, true, arith}
+use Rattle.std.proofs.lemmas.Bool.{cond-true, cond-false, eq-eqb, ne_eqb}
+use Rattle.std.proofs.lemmas.List.{drop-drop, drop-take, take-take, take-append-drop, drop_more, get_or-take, get_or-drop, take_rest}
+use Rattle.std.proofs.lemmas.Str.{IsCharBoundary-before_ascii, IsCharBoundary-after_ascii}
+use Rattle.std.specs.Str.{IsAscii, IsUtf8, IsCharBoundary}
+use Rattle.plc_text.specs.Text.{folded}
+use Rattle.plc_text.specs.Words.{begins, is_blank}
+use Rattle.st_tree.specs.Reads.{terminal_of}
+use Rattle.st_lexer.proofs.PieceLaws.{blank_piece}
+use Rattle.std.specs.List.{slice_range, cons_option}
 use Rattle.std.proofs.lemmas.List.Sums.{sum_by-append}
 use Rattle.std.specs.Option.{option_map}
 use Rattle.plc_text.specs.Lines.{line_of}
 use Rattle.std.specs.Bool.{◌==◌}
-use Rattle.std.specs.Str.{IsAscii}
+use Rattle.st_tree.specs.declared.terminal.Terminal.{Terminal}
 use Rattle.st_tree.specs.declared.token.TokenKind.{TokenKind}
 use Rattle.st_tree.specs.Pieces.{is_piece}
-use Rattle.st_tree.specs.Tokens.{Token, IsPiece, IsChain, IsBad, Lexes, token_at, tokens_between, piece_kind}
-use Rattle.st_lexer.specs.Fronts.{IsLongestFront}
-use Rattle.st_lexer.proofs.AsciiLaws.{token_ascii}
+use Rattle.st_tree.specs.Token.{Token, IsPiece, IsChain, Lexes, token_at, tokens_between, piece_kind}
+use Rattle.st_lexer.specs.Private.Piece.{IsLongestFront, BeginsPiece, BeginsToken, line_feeds}
 
 slice_front : (text : List ℕ) (p n : ℕ) → slice_range text p (p + n) ≡ take n (drop p text)
 slice_front text p n = let e : p + n - p ≡ n = omega arith in ap (λ k. take k (drop p text)) e
@@ -28,15 +34,6 @@ piece_from_front text p n before some front = record {
       (let e : further ≡ p + (further - p) = omega arith in
       ap (λ k. is_piece (slice_range text p k) (drop k text)) e ∙ fits_front text p (further - p)
       ∙ front.longest (further - p) (omega arith) (omega (arith, length-drop p text)));
-}
-
-pub bad_from_front : (text : List ℕ) (p : ℕ) → p < length text → IsLongestFront is_piece (drop p text) 0 → IsBad text p
-bad_from_front text p before front = record {
-  within = before;
-  no-piece = λ end past within.
-      (let e : end ≡ p + (end - p) = omega arith in
-      ap (λ k. is_piece (slice_range text p k) (drop k text)) e ∙ fits_front text p (end - p)
-      ∙ front.longest (end - p) (omega arith) (omega (arith, length-drop p text)));
 }
 
 pub nothing : (text : List ℕ) (p : ℕ) → Lexes text p [] p
@@ -70,19 +67,25 @@ one_piece text p e o piece is = record { ends = e ∷ []; chain = (piece, refl);
 pub passes : (text : List ℕ) (a p e : ℕ) → Lexes text a [] p → IsPiece text p e → piece_kind (slice_range text p e) ≡ None → Lexes text a [] e
 passes text a p e before piece kind = join text a p e [] [] before (one_piece text p e None piece (ap (λ k. option_map (λ kind. record { kind = kind; text = slice_range text p e; span = record { start = p; end = e }; line = line_of text p }) k) kind))
 
--- a step of the lexer, at n bytes behind the place p
+-- a step of the lexer, at a place p
 
-pub rest_is : (text bytes : List ℕ) (p : ℕ) → bytes ≡ text → take (length bytes - p) (drop p bytes) ≡ drop p text
-rest_is text bytes p e = take_rest bytes p ∙ ap (drop p) e
+pub piece_is : (text : List ℕ) (p n : ℕ) (kind : Option TokenKind) → p ≤ length text → BeginsPiece (drop p text) n kind → IsPiece text p (p + n)
+piece_is text p n kind before piece = piece_from_front text p n before piece.some piece.front
 
-pub piece_step : (text rest : List ℕ) (p n : ℕ) → p ≤ length text → rest ≡ drop p text → 0 < n → IsLongestFront is_piece rest n → IsPiece text p (p + n)
-piece_step text rest p n before e some front = piece_from_front text p n before some (rw e at front)
+kind_there : (text : List ℕ) (p n : ℕ) (kind : Option TokenKind) → BeginsPiece (drop p text) n kind → piece_kind (slice_range text p (p + n)) ≡ kind
+kind_there text p n kind piece = ap piece_kind (slice_front text p n) ∙ piece.kind-is
 
-slice_step : (text rest : List ℕ) (p n : ℕ) → rest ≡ drop p text → slice_range text p (p + n) ≡ take n rest
-slice_step text rest p n e = slice_front text p n ∙ ap (take n) (sym e)
+-- a piece more that is passed over
+pub passed_step : (text : List ℕ) (from p n : ℕ) → p ≤ length text → Lexes text from [] p → BeginsPiece (drop p text) n None → Lexes text from [] (p + n)
+passed_step text from p n before lexed piece = passes text from p (p + n) lexed (piece_is text p n None before piece) (kind_there text p n None piece)
 
-pub ascii_step : (rest : List ℕ) (n : ℕ) (o : Option TokenKind) (kind : TokenKind) → 0 < n → IsLongestFront is_piece rest n → (0 < n → o ≡ piece_kind (take n rest)) → o ≡ Some kind → IsAscii (take n rest)
-ascii_step rest n o kind some front is found = token_ascii (take n rest) (drop n rest) kind (front.passes some) (sym (is some) ∙ found)
+-- a token
+pub token_step : (text shown : List ℕ) (p n line : ℕ) (kind : TokenKind) (terminal : Option Terminal) → p ≤ length text → BeginsToken (drop p text) n kind terminal → line ≡ line_of text p → shown ≡ take n (drop p text) → Lexes text p (record { kind = kind; text = shown; span = record { start = p; end = p + n }; line = line } ∷ []) (p + n)
+token_step text shown p n line kind terminal before begins l s =
+    one_piece text p (p + n) (Some (record { kind = kind; text = shown; span = record { start = p; end = p + n }; line = line })) (piece_is text p n (Some kind) before begins.piece)
+    (ap (λ k. option_map (λ kind. record { kind = kind; text = slice_range text p (p + n); span = record { start = p; end = p + n }; line = line_of text p }) k) (kind_there text p n (Some kind) begins.piece)
+    ∙ ap (λ t. Some (record { kind = kind; text = t; span = record { start = p; end = p + n }; line = line_of text p })) (slice_front text p n ∙ sym s)
+    ∙ ap (λ x. Some (record { kind = kind; text = shown; span = record { start = p; end = p + n }; line = x })) (sym l))
 
 take-add : (p n : ℕ) (text : List ℕ) → take (p + n) text ≡ take p text ++ take n (drop p text)
 take-add p n text =
@@ -90,27 +93,88 @@ take-add p n text =
     ∙ ap (λ xs. xs ++ drop p (take (p + n) text)) (take-take p (p + n) text (omega arith))
     ∙ ap (λ xs. take p text ++ xs) (drop-take p n text)
 
-pub line_step : (text rest : List ℕ) (p n line feeds : ℕ) → rest ≡ drop p text → line ≡ line_of text p → feeds ≡ count_by (λ byte. byte == 10) (take n rest) → line + feeds ≡ line_of text (p + n)
-line_step text rest p n line feeds e l f =
-    let whole : count_by (λ byte. byte == 10) (take (p + n) text) ≡ count_by (λ byte. byte == 10) (take p text) + count_by (λ byte. byte == 10) (take n (drop p text)) =
-    ap (count_by (λ byte. byte == 10)) (take-add p n text) ∙ sum_by-append (λ byte. cond (byte == 10) 1 0) (take p text) (take n (drop p text)) in
-    let last : feeds ≡ count_by (λ byte. byte == 10) (take n (drop p text)) = f ∙ ap (λ xs. count_by (λ byte. byte == 10) (take n xs)) e in
-    omega (arith, whole, last, l)
+-- the line behind n bytes with so many line feeds
+pub line_step : (text : List ℕ) (p n line feeds : ℕ) → line ≡ line_of text p → feeds ≡ line_feeds (take n (drop p text)) → line + feeds ≡ line_of text (p + n)
+line_step text p n line feeds l f =
+    let whole : line_feeds (take (p + n) text) ≡ line_feeds (take p text) + line_feeds (take n (drop p text)) =
+    ap line_feeds (take-add p n text) ∙ sum_by-append (λ byte. cond (byte == 10) 1 0) (take p text) (take n (drop p text)) in
+    omega (arith, whole, f, l)
 
-pub token_step : (text rest shown : List ℕ) (from p n line : ℕ) (o : Option TokenKind) (kind : TokenKind) → Lexes text from [] p → p ≤ length text → rest ≡ drop p text → 0 < n → IsLongestFront is_piece rest n → (0 < n → o ≡ piece_kind (take n rest)) → o ≡ Some kind → shown ≡ take n rest → line ≡ line_of text p
-    → Lexes text from (record { kind = kind; text = shown; span = record { start = p; end = p + n }; line = line } ∷ []) (p + n)
-token_step text rest shown from p n line o kind before place e some front is found s l =
-    join text from p (p + n) [] _ before (one_piece text p (p + n) (Some (token kind shown line)) (piece_step text rest p n place e some front) at)
+-- ---- a token within the text
+
+ascii_within : (text : List ℕ) (p n k : ℕ) → IsAscii (take n (drop p text)) → k < n → get_or text (p + k) 0 < 128
+ascii_within text p n k ascii less =
+    let e : get_or (take n (drop p text)) k 0 ≡ get_or text (p + k) 0 = get_or-take n (drop p text) k 0 less ∙ get_or-drop p text k 0 in
+    rw (sym e) (ascii k)
+
+pub start_boundary : (text : List ℕ) (p n : ℕ) (kind : TokenKind) (terminal : Option Terminal) → p ≤ length text → BeginsToken (drop p text) n kind terminal → IsCharBoundary text p
+start_boundary text p n kind terminal before begins =
+    let e : p + 0 ≡ p = omega arith in
+    IsCharBoundary-before_ascii text p (omega (arith, begins.piece.some, begins.piece.front.within, length-drop p text))
+    (rw e at (ascii_within text p n 0 begins.ascii begins.piece.some))
+
+pub end_boundary : (text : List ℕ) (p n : ℕ) (kind : TokenKind) (terminal : Option Terminal) → IsUtf8 text → p ≤ length text → BeginsToken (drop p text) n kind terminal → IsCharBoundary text (p + n)
+end_boundary text p n kind terminal utf8 before begins =
+    let some : 0 < n = begins.piece.some in
+    let e : p + (n - 1) + 1 ≡ p + n = omega arith in
+    rw e at (IsCharBoundary-after_ascii text (p + (n - 1)) utf8 (omega (arith, begins.piece.front.within, length-drop p text)) (ascii_within text p n (n - 1) begins.ascii (omega arith)))
+
+pub shown_there : (text : List ℕ) (p n : ℕ) → slice_range text p (p + n) ≡ take n (drop p text)
+shown_there text p n = slice_front text p n
+
+pub told_there : (text shown : List ℕ) (p n : ℕ) (kind : TokenKind) (terminal : Option Terminal) → BeginsToken (drop p text) n kind terminal → shown ≡ slice_range text p (p + n) → terminal ≡ terminal_of kind (folded shown)
+told_there text shown p n kind terminal begins s = begins.terminal-is ∙ ap (λ t. terminal_of kind (folded t)) (sym (s ∙ slice_front text p n))
+
+-- ---- a step over white space
+
+begins_drop : (test : ℕ → Bool) (text : List ℕ) (p : ℕ) → p < length text → begins test (drop p text) ≡ test (get_or text p 0)
+begins_drop test text p less = ap (begins test) (drop_more text p 0 less)
+
+pub blank_step : (text : List ℕ) (from p : ℕ) → p < length text → is_blank (get_or text p 0) ≡ true → Lexes text from [] p → Lexes text from [] (p + 1)
+blank_step text from p less blank lexed = passed_step text from p 1 (omega arith) lexed (blank_piece (drop p text) (begins_drop is_blank text p less ∙ blank))
+
+feed_there : (text : List ℕ) (p : ℕ) → p < length text → line_feeds (take 1 (drop p text)) ≡ cond (get_or text p 0 == 10) 1 0
+feed_there text p less = ap (λ xs. line_feeds (take 1 xs)) (drop_more text p 0 less) ∙ count (get_or text p 0)
   where
-    token : TokenKind → List ℕ → ℕ → Token
-    token kind shown line = record { kind = kind; text = shown; span = record { start = p; end = p + n }; line = line }
+    count : (c : ℕ) → line_feeds (c ∷ []) ≡ cond (c == 10) 1 0
+    count c = omega arith
 
-    at : token_at text p (p + n) ≡ Some (token kind shown line)
-    at =
-        ap (λ k. option_map (λ kind. token kind (slice_range text p (p + n)) (line_of text p)) k) (ap piece_kind (slice_step text rest p n e) ∙ sym (is some) ∙ found)
-        ∙ ap (λ t. Some (token kind t (line_of text p))) (slice_step text rest p n e ∙ sym s)
-        ∙ ap (λ x. Some (token kind shown x)) (sym l)
+pub feed_step : (text : List ℕ) (p line : ℕ) → p < length text → get_or text p 0 ≡ 10 → line ≡ line_of text p → line + 1 ≡ line_of text (p + 1)
+feed_step text p line less e l = line_step text p 1 line 1 l (sym (feed_there text p less ∙ cond-true (get_or text p 0 == 10) 1 0 (eq-eqb (get_or text p 0) 10 e)))
 
-pub skip_step : (text rest : List ℕ) (from p n : ℕ) (o : Option TokenKind) → Lexes text from [] p → p ≤ length text → rest ≡ drop p text → 0 < n → IsLongestFront is_piece rest n → (0 < n → o ≡ piece_kind (take n rest)) → o ≡ None → Lexes text from [] (p + n)
-skip_step text rest from p n o before place e some front is none =
-    passes text from p (p + n) before (piece_step text rest p n place e some front) (ap piece_kind (slice_step text rest p n e) ∙ sym (is some) ∙ none)
+pub no_feed_step : (text : List ℕ) (p line : ℕ) → p < length text → (get_or text p 0 ≡ 10 → ⊥) → line ≡ line_of text p → line ≡ line_of text (p + 1)
+no_feed_step text p line less other l =
+    (let e : line ≡ line + 0 = omega arith in e)
+    ∙ line_step text p 1 line 0 l (sym (feed_there text p less ∙ cond-false (get_or text p 0 == 10) 1 0 (ne_eqb (get_or text p 0) 10 other)))
+
+-- ---- one piece after the other, where the code has the text's bytes
+
+pub rest_is : (text bytes : List ℕ) (p : ℕ) → bytes ≡ text → take (length bytes - p) (drop p bytes) ≡ drop p text
+rest_is text bytes p e = take_rest bytes p ∙ ap (drop p) e
+
+pub on_rest : (text bytes : List ℕ) (p : ℕ) (P : List ℕ → Type 0) → bytes ≡ text → P (take (length bytes - p) (drop p bytes)) → P (drop p text)
+on_rest text bytes p P e h = subst P (rest_is text bytes p e) h
+
+pub chain_within : (text : List ℕ) (a b : ℕ) (ends : List ℕ) → IsChain text a ends b → a ≤ length text → (a ≤ b) × (b ≤ length text)
+chain_within text a b [] e room = (omega arith, omega arith)
+chain_within text a b (p ∷ ends) (piece, chain) room = let rest = chain_within text p b ends chain piece.within in (omega (arith, piece.some), rest.1)
+
+pub passed_on : (text bytes : List ℕ) (from p n q r : ℕ) → bytes ≡ text → p ≤ length text → Lexes text from [] p → BeginsPiece (take (length bytes - p) (drop p bytes)) n None → q ≡ p + n → Lexes bytes q [] r → Lexes text from [] r
+passed_on text bytes from p n q r e before lexed piece at more =
+    join text from (p + n) r [] [] (passed_step text from p n before lexed (on_rest text bytes p (λ rest. BeginsPiece rest n None) e piece))
+    (subst (λ (k : ℕ). Lexes text k [] r) at (subst (λ (t : List ℕ). Lexes t q [] r) e more))
+
+pub further : (text bytes : List ℕ) (p n q r : ℕ) → bytes ≡ text → p < length text → BeginsPiece (take (length bytes - p) (drop p bytes)) n None → q ≡ p + n → Lexes bytes q [] r → r ≤ length bytes → length text - r < length text - p
+further text bytes p n q r e before piece at more room =
+    let piece' : BeginsPiece (drop p text) n None = on_rest text bytes p (λ rest. BeginsPiece rest n None) e piece in
+    let within : q ≤ length bytes = omega (arith, ap length e, at, piece'.front.within, length-drop p text) in
+    let ahead = chain_within bytes q r more.ends more.chain within in
+    omega (arith, ap length e, at, piece'.some, ahead.0)
+
+pub token_after : (text : List ℕ) (from p q : ℕ) (t : Token) → Lexes text from [] p → Lexes text p (t ∷ []) q → Lexes text from (t ∷ []) q
+token_after text from p q t before lexed = join text from p q [] (t ∷ []) before lexed
+
+pub same_line : (text bytes : List ℕ) (p n line : ℕ) → bytes ≡ text → line ≡ line_of text p → line_feeds (take n (take (length bytes - p) (drop p bytes))) ≡ 0 → line ≡ line_of text (p + n)
+same_line text bytes p n line e l none =
+    (let same : line ≡ line + 0 = omega arith in same)
+    ∙ line_step text p n line 0 l (sym (on_rest text bytes p (λ rest. line_feeds (take n rest) ≡ 0) e none))

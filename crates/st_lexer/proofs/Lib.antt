@@ -1,11 +1,11 @@
-pub mod HeadLaws
-pub mod RunLaws
-pub mod FormLaws
-pub mod PartLaws
-pub mod PieceLaws
-pub mod LoopLaws
-pub mod KindLaws
-pub mod LexLaws
-pub mod AsciiLaws
-pub mod HeadingLaws
-pub mod SourceLaws
+mod HeadLaws
+mod RunLaws
+mod PartLaws
+mod FormLaws
+mod AsciiLaws
+mod StartLaws
+mod PieceLaws
+mod LexLaws
+mod LoopLaws
+mod SourceLaws
+mod HeadingLaws

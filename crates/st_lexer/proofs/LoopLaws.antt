@@ -4,7 +4,7 @@ use Rattle.std.proofs.lemmas.List.{drop_more, take_rest}
 use Rattle.std.proofs.lemmas.Bool.{cond-true, cond-false, ne_eqb}
 use Rattle.plc_text.specs.Words.{opens}
 use Rattle.st_tree.specs.Pieces.{units}
-use Rattle.st_lexer.specs.Reach.{with_head, closing_from, part_len, underscore_len, parts_len, timed_len}
+use Rattle.st_lexer.specs.Private.Reach.{with_head, closing_from, part_len, underscore_len, parts_len, timed_len}
 
 pub closing_step : (mark text : List ℕ) (i x : ℕ) → i < length text → opens mark (take (length text - i) (drop i text)) ≡ false → closing_from mark i (drop i text) ≡ x → closing_from mark (i + 1) (drop (i + 1) text) ≡ x
 closing_step mark text i x within fails h =

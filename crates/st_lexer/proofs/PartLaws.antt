@@ -8,8 +8,8 @@ use Rattle.std.specs.Char.{to_ascii_uppercase}
 use Rattle.std.proofs.lemmas.List.Sums.{prefix_len-le-length}
 use Rattle.plc_text.specs.Words.{is_one_of, opens, begins, behind_all, is_digit}
 use Rattle.st_tree.specs.Pieces.{begins_part, behind_part, behind_underscore, is_empty, is_underscore, are_parts, units}
-use Rattle.st_lexer.specs.Fronts.{IsLongest}
-use Rattle.st_lexer.specs.Reach.{with_head, part_len, parts_len}
+use Rattle.st_lexer.specs.Private.Piece.{IsLongest}
+use Rattle.st_lexer.specs.Private.Reach.{with_head, part_len, parts_len}
 use Rattle.st_lexer.proofs.HeadLaws.{with_head_some, opens_front, opens_take, opens_long}
 use Rattle.st_lexer.proofs.RunLaws.{none}
 

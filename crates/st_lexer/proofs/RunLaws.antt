@@ -1,11 +1,11 @@
 -- Fronts that are found character by character.
 use Rattle.std.proofs.Common.{◌≡◌, ℕ, zero, suc, ◌+◌, ◌<◌, ◌≤◌, Bool, true, false, ◌&&◌, List, [], ◌∷◌, length, take, refl, sym, ap, ◌∙◌, inl, inr, nat_eq, cond, length-take, arith}
-use Rattle.std.proofs.lemmas.Bool.{and_parts, and_left, and_right, both_ways, cases_Bool, cond-true, cond-false, or_left, false_from_ne_true, and_cases, ne_eqb}
+use Rattle.std.proofs.lemmas.Bool.{and_parts, and_left, and_right, both_ways, cases_Bool, cases_lt, cond-true, cond-false, or_left, false_from_ne_true, and_cases, ne_eqb, eq-eqb}
 use Rattle.std.specs.List.{list_all, prefix_len}
 use Rattle.plc_text.specs.Words.{spells, opens, begins, is_digit, is_letter, is_word_character, is_word, is_number}
 use Rattle.st_tree.specs.Pieces.{ends_first, are_spaced, is_underscore}
-use Rattle.st_lexer.specs.Fronts.{IsLongest}
-use Rattle.st_lexer.specs.Reach.{with_head, closing_from, spaced_from, digits_len}
+use Rattle.st_lexer.specs.Private.Piece.{IsLongest}
+use Rattle.st_lexer.specs.Private.Reach.{with_head, closing_from, spaced_from, digits_len}
 use Rattle.st_lexer.proofs.HeadLaws.{with_head_some, spells_long, opens_take, opens_front, opens_long}
 
 -- no front passes
@@ -187,3 +187,10 @@ digits_front test text = let found = spaced_front test 0 0 false text in rw (fou
     whole : (n : ℕ) → later 0 0 n ≡ n
     whole zero = refl
     whole (suc n) = later_some 0 0 (suc n) (omega arith) ∙ omega arith
+
+-- whether a front of the greatest length passes a test is whether the test reaches it
+pub reaches : (test : List ℕ → Bool) (text : List ℕ) (a n : ℕ) → IsLongest test text a → 0 < n → a ≤ n → n ≤ length text → nat_eq a n ≡ test (take n text)
+reaches test text a n front some least within = elim (cases_lt a n) [
+  | inl less ↦ ne_eqb a n (λ e. omega arith) ∙ sym (front.longest n less within)
+  | inr more ↦ let e : a ≡ n = omega arith in eq-eqb a n e ∙ sym (let h = front.passes (omega arith) in rw e at h)
+]

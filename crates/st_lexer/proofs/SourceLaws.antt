@@ -5,16 +5,12 @@ use Rattle.plc_text.specs.Lines.{line_of}
 use Rattle.plc_text.specs.declared.code.Code.TheVariants as codes
 use Rattle.plc_text.specs.declared.denied.Denied.{Denied}
 use Rattle.plc_text.specs.declared.denied.Denied.TheVariants.{Refused, NoMemory}
-use Rattle.st_tree.specs.Tokens.{Token, IsChain, IsBad, Lexes, BadAfter, tokens_between}
+use Rattle.st_tree.specs.Token.{Token, IsChain, IsBad, Lexes, BadAfter, tokens_between}
 use Rattle.st_tree.specs.Headings.{declaration_before}
 use Rattle.st_lexer.specs.declared.token.Token.{Token as Lexed}
-use Rattle.st_lexer.specs.Views.{token_view}
-use Rattle.st_lexer.specs.Refused.{OnRefused, Says, SaysBad}
-use Rattle.st_lexer.proofs.LexLaws.{join}
-
-chain_within : (text : List ℕ) (a b : ℕ) (ends : List ℕ) → IsChain text a ends b → a ≤ length text → (a ≤ b) × (b ≤ length text)
-chain_within text a b [] e room = (omega arith, omega arith)
-chain_within text a b (p ∷ ends) (piece, chain) room = let rest = chain_within text p b ends chain piece.within in (omega (arith, piece.some), rest.1)
+use Rattle.st_lexer.specs.Token.{token_view}
+use Rattle.st_lexer.specs.Source.{OnRefused, Says, SaysBad}
+use Rattle.st_lexer.proofs.LexLaws.{join, chain_within}
 
 -- a token takes a place
 pub forward : (text : List ℕ) (p q : ℕ) (t : Token) (ts : List Token) → Lexes text p (t ∷ ts) q → (p < q) × (q ≤ length text)

@@ -1,6 +1,5 @@
-pub mod Classes
-pub mod Reach
-pub mod Fronts
-pub mod Views
-pub mod Position
-pub mod Refused
+pub mod Token
+pub mod Lexer
+pub mod Source
+pub mod Lexeme
+pub mod Private

@@ -1,12 +1,13 @@
-ghost use Rattle.std.specs.Prelude.{◌≡◌, ◌==◌, ◌≤◌, length, IsTrue};
-ghost use Rattle.std.specs.Str.{IsAscii};
-ghost use Rattle.std.specs.List.{prefix_len, list_any};
-ghost use Rattle.plc_text.specs.Words as words_spec;
-ghost use Rattle.st_tree.specs.Terminal.{is_symbol as is_symbol_of};
-ghost use Rattle.st_tree.specs.Pieces.{opens_comment as opens_comment_of};
-ghost use Rattle.st_lexer.specs.Classes.{test_of};
+//! Runs of characters, and what a text begins with.
 
-use st_tree::symbol;
+ghost use Rattle.std.specs.Prelude.{◌≡◌, ◌==◌, ◌≤◌, length};
+ghost use Rattle.std.specs.Str.{IsAscii};
+ghost use Rattle.std.specs.List.{prefix_len};
+ghost use Rattle.plc_text.specs.Words as words;
+ghost use Rattle.st_tree.specs.Pieces.{opens_comment as opens_comment_of};
+ghost use Rattle.st_lexer.specs.Private.Characters.{test_of};
+
+use plc_text::{is_blank, is_digit, is_letter, is_word_character, opens};
 use std::str;
 
 /// Characters of one kind.
@@ -27,16 +28,17 @@ pub(crate) enum Class {
 }
 
 impl Class {
+    #[inline]
     pub(crate) fn has(self, byte: u8) -> bool
         ensures { result ≡ test_of self byte }
     {
         match self {
             Class::Binary => byte == b'0' || byte == b'1',
             Class::Octal => byte >= b'0' && byte <= b'7',
-            Class::Decimal => byte.is_ascii_digit(),
+            Class::Decimal => is_digit(byte),
             Class::Hexadecimal => byte.is_ascii_hexdigit(),
-            Class::Blank => byte == b' ' || byte == b'\t' || byte == b'\n' || byte == b'\r',
-            Class::InWord => byte.is_ascii_alphanumeric() || byte == b'_',
+            Class::Blank => is_blank(byte),
+            Class::InWord => is_word_character(byte),
             Class::InLine => byte != b'\n',
         }
     }
@@ -54,6 +56,7 @@ pub(crate) fn ascii(bytes: &[u8]) -> &str
 }
 
 /// How many bytes from the front on are of the class.
+#[inline]
 pub(crate) fn run(text: &[u8], class: Class) -> usize
     ensures value { result ≡ prefix_len (test_of class) text.now }
     ensures within { result ≤ length text.now }
@@ -68,53 +71,23 @@ pub(crate) fn run(text: &[u8], class: Class) -> usize
 
 /// Whether the text has a first byte of the class.
 pub(crate) fn begins(text: &[u8], class: Class) -> bool
-    ensures { result ≡ words_spec.begins (test_of class) text.now }
+    ensures { result ≡ words.begins (test_of class) text.now }
 {
     !text.is_empty() && class.has(text[0])
 }
 
 /// Whether the text begins with an ASCII letter or an underscore.
 pub(crate) fn begins_letter(text: &[u8]) -> bool
-    ensures { result ≡ words_spec.begins words_spec.is_letter text.now }
+    ensures { result ≡ words.begins words.is_letter text.now }
 {
-    !text.is_empty() && (text[0].is_ascii_alphabetic() || text[0] == b'_')
+    !text.is_empty() && is_letter(text[0])
 }
 
 /// Whether the text begins with this byte.
 pub(crate) fn begins_with(text: &[u8], byte: u8) -> bool
-    ensures { result ≡ words_spec.begins (λ c. c == byte) text.now }
+    ensures { result ≡ words.begins (λ c. c == byte) text.now }
 {
     !text.is_empty() && text[0] == byte
-}
-
-/// Whether the text in upper case is the word.
-pub(crate) fn spells(text: &[u8], word: &[u8]) -> bool
-    ensures { result ≡ words_spec.spells word.now text.now }
-{
-    if text.len() != word.len() {
-        return false;
-    }
-    for i in 0..text.len() {
-        if text[i].to_ascii_uppercase() != word[i] {
-            return false;
-        }
-    }
-    true
-}
-
-/// Whether the text in upper case is one of the words.
-pub(crate) fn is_one_of(text: &[u8], words: &[&str]) -> bool
-    ensures { result ≡ list_any (λ word. words_spec.spells word.now text.now) words.now }
-{
-    words.iter().any(|word| spells(text, word.as_bytes()))
-}
-
-/// Whether the text begins with the word, letter case apart.
-pub(crate) fn opens(text: &[u8], word: &[u8]) -> bool
-    ensures value { result ≡ words_spec.opens word.now text.now }
-    ensures within { IsTrue result → length word.now ≤ length text.now }
-{
-    text.len() >= word.len() && spells(&text[..word.len()], word)
 }
 
 /// Whether `(*`, `/*` or `//` stands at the front.
@@ -122,10 +95,4 @@ pub(crate) fn opens_comment(text: &[u8]) -> bool
     ensures { result ≡ opens_comment_of text.now }
 {
     opens(text, b"(*") || opens(text, b"/*") || opens(text, b"//")
-}
-
-pub(crate) fn is_symbol(text: &[u8]) -> bool
-    ensures { result ≡ is_symbol_of text.now }
-{
-    symbol(text).is_some()
 }

@@ -1,61 +1,68 @@
+//! The declaration that a place is in.
+
 ghost use Rattle.std.specs.Prelude.{◌≡◌, map};
 ghost use Rattle.plc_text.specs.Text.{folded};
-ghost use Rattle.st_tree.specs.Headings.{is_heading as is_heading_of, is_modifier as is_modifier_of, declaration_before};
-ghost use Rattle.st_lexer.specs.Views.{token_view, name_in};
+ghost use Rattle.st_tree.specs.Reads.{lexemes};
+ghost use Rattle.st_tree.specs.Headings as headings;
+ghost use Rattle.st_lexer.specs.Token.{token_view};
 
-use crate::characters::is_one_of;
 use crate::token::Token;
-use st_tree::TokenKind;
+use st_tree::Terminal;
 
-const HEADINGS: [&str; 7] = [
-    "TYPE",
-    "INTERFACE",
-    "CLASS",
-    "FUNCTION_BLOCK",
-    "FUNCTION",
-    "PROGRAM",
-    "CONFIGURATION",
-];
-
-fn is_heading(token: &Token<'_>) -> bool
-    ensures { result ≡ is_heading_of (token_view token.now) }
+fn is_heading(terminal: Terminal) -> bool
+    ensures { result ≡ headings.is_heading terminal }
 {
-    token.kind == TokenKind::Keyword && is_one_of(token.text.as_bytes(), &HEADINGS)
+    matches!(
+        terminal,
+        Terminal::Type
+            | Terminal::Interface
+            | Terminal::Class
+            | Terminal::FunctionBlock
+            | Terminal::Function
+            | Terminal::Program
+            | Terminal::Configuration
+    )
 }
 
-fn is_modifier(token: &Token<'_>) -> bool
-    ensures { result ≡ is_modifier_of (token_view token.now) }
+fn is_modifier(terminal: Terminal) -> bool
+    ensures { result ≡ headings.is_modifier terminal }
 {
-    token.kind == TokenKind::Keyword && is_one_of(token.text.as_bytes(), &["ABSTRACT", "FINAL"])
+    matches!(terminal, Terminal::Abstract | Terminal::Final)
 }
 
-/// The word that names the declaration that a place is in, told from the tokens before it, if there is one.
-fn naming_word<'a>(tokens: &[Token<'a>]) -> Option<Token<'a>>
-    ensures { name_in result ≡ declaration_before (map token_view tokens.now) }
+fn is_word(terminal: Terminal) -> bool
+    ensures { result ≡ headings.is_word terminal }
 {
-    let mut word = None;
-    let mut waits = false;
+    matches!(terminal, Terminal::Word)
+}
+
+/// The name at the front, as it is spelled, behind ABSTRACT and FINAL; `-` where none stands there.
+fn name_at<'a>(tokens: &[Token<'a>]) -> &'a str
+    ensures { folded result.now ≡ headings.name_at (lexemes (map token_view tokens.now)) }
+{
     for token in tokens {
-        if is_heading(token) {
-            word = None;
-            waits = true;
-        } else if waits && token.kind != TokenKind::Mark && !is_modifier(token) {
-            if token.kind == TokenKind::Word {
-                word = Some(*token);
+        if let Some(terminal) = token.terminal {
+            if !is_modifier(terminal) {
+                return if is_word(terminal) { token.text } else { "-" };
             }
-            waits = false;
         }
     }
-    word
+    "-"
 }
 
-/// The name, as it is spelled, of the declaration that a place is in, told from the tokens before it; `-` where none
-/// begins there.
+/// The name, as it is spelled, of the declaration of the place behind these tokens; `-` where none begins before it.
 pub fn declaration<'a>(tokens: &[Token<'a>]) -> &'a str
-    ensures { folded result.now ≡ declaration_before (map token_view tokens.now) }
+    ensures { folded result.now ≡ headings.declaration_before (map token_view tokens.now) }
 {
-    match naming_word(tokens) {
-        Some(word) => word.text,
-        None => "-",
+    let mut place = tokens.len();
+    'tokens: while place > 0 {
+        place -= 1;
+        let token = tokens[place];
+        if let Some(terminal) = token.terminal {
+            if is_heading(terminal) {
+                return name_at(&tokens[place + 1..]);
+            }
+        }
     }
+    "-"
 }

@@ -3,6 +3,7 @@
 
 mod characters;
 mod headings;
+mod lexeme;
 mod lexer;
 mod marks;
 mod piece;
@@ -13,6 +14,7 @@ mod tests;
 mod token;
 
 pub use headings::declaration;
+pub use lexeme::{Lexeme, lexemes};
 pub use lexer::Lexer;
 pub use marks::{is_init_on_change, is_no_copy, old_name};
 pub use source::{MAX_SOURCE, tokens};

@@ -1,12 +1,15 @@
 //! The pragmas that count.
+
 ghost use Rattle.std.specs.Prelude.{◌≡◌, ◌↔◌, true, IsSome, IfSome};
 ghost use Rattle.std.specs.List.{list_all, take_while};
-ghost use Rattle.plc_text.specs.Words.{behind_all, is_blank, is_word_character, is_word as is_word_of};
+ghost use Rattle.plc_text.specs.Words.{behind_all, is_blank, is_word_character};
 ghost use Rattle.st_tree.specs.Terminal.{is_name as is_name_of};
+ghost use Rattle.st_tree.specs.Pieces.{is_pragma as is_pragma_of};
 ghost use Rattle.st_tree.specs.Marks as marks;
-ghost use Rattle.st_lexer.specs.Reach.{names as names_of};
 
-use crate::characters::{Class, ascii, begins, begins_letter, opens, run};
+use crate::characters::{Class, ascii, begins, run};
+use crate::reach::pragma_len;
+use plc_text::{is_word, opens};
 use st_tree::is_keyword;
 
 /// What stands between the braces.
@@ -31,23 +34,17 @@ fn are_blank(text: &[u8]) -> bool
     text.iter().all(|byte| Class::Blank.has(*byte))
 }
 
-/// Whether the pragma is `attribute` and a text in quotes.
-#[tactic(auto, unfolding(st_tree::specs::Marks::is_attribute))]
-fn is_attribute(pragma: &[u8], quoted: &[u8]) -> bool
-    ensures { result ≡ marks.is_attribute quoted.now pragma.now }
+/// Whether the text is `attribute` and a text in quotes.
+#[tactic(auto, unfolding(st_tree::specs::Marks::says_attribute))]
+fn says_attribute(text: &[u8], quoted: &[u8]) -> bool
+    ensures { result ≡ marks.says_attribute quoted.now text.now }
 {
-    let text = behind_blanks(inside(pragma));
-    if !opens(text, b"ATTRIBUTE") {
+    let words = behind_blanks(text);
+    if !opens(words, b"ATTRIBUTE") {
         return false;
     }
-    let value = behind_blanks(&text[9..]);
+    let value = behind_blanks(&words[9..]);
     opens(value, quoted) && are_blank(&value[quoted.len()..])
-}
-
-fn is_word(text: &[u8]) -> bool
-    ensures { result ≡ is_word_of text.now }
-{
-    begins_letter(text) && run(text, Class::InWord) == text.len()
 }
 
 /// Whether the text is a word that may name something.
@@ -72,61 +69,80 @@ fn behind_word(text: &[u8]) -> &[u8]
 
 /// Whether the text is white space, a name and white space.
 fn names(text: &[u8]) -> bool
-    ensures { result ≡ names_of text.now }
+    ensures { result ≡ marks.names text.now }
 {
     let rest = behind_blanks(text);
     begins(text, Class::Blank) && is_name(word_front(rest)) && are_blank(behind_word(rest))
 }
 
 /// What stands behind the word `renamed_from`, where it is that long.
-fn behind_renamed(pragma: &[u8]) -> &[u8]
-    ensures { result.now ≡ marks.behind_renamed pragma.now }
+fn behind_renamed(text: &[u8]) -> &[u8]
+    ensures { result.now ≡ marks.behind_renamed text.now }
 {
-    let text = behind_blanks(inside(pragma));
-    &text[text.len().min(12)..]
+    let words = behind_blanks(text);
+    &words[words.len().min(12)..]
 }
 
-/// Whether the pragma is `renamed_from` and a name.
+/// Whether the text is `renamed_from` and a name.
+#[tactic(auto, unfolding(st_tree::specs::Marks::says_renamed))]
+fn says_renamed(text: &[u8]) -> bool
+    ensures { result ≡ marks.says_renamed text.now }
+{
+    opens(behind_blanks(text), b"RENAMED_FROM") && names(behind_renamed(text))
+}
+
+fn is_pragma(text: &[u8]) -> bool
+    ensures { result ≡ is_pragma_of text.now }
+{
+    !text.is_empty() && pragma_len(text) == text.len()
+}
+
+/// Whether a text is a mark with an old name.
 #[tactic(auto, unfolding(st_tree::specs::Marks::is_renamed))]
-fn is_renamed(pragma: &[u8]) -> bool
-    ensures { result ≡ marks.is_renamed pragma.now }
+fn is_renamed(text: &[u8]) -> bool
+    ensures { result ≡ marks.is_renamed text.now }
 {
-    opens(behind_blanks(inside(pragma)), b"RENAMED_FROM") && names(behind_renamed(pragma))
+    is_pragma(text) && says_renamed(inside(text))
 }
 
-/// Whether the text of a mark is `{attribute 'no_copy'}`.
+/// Whether a text is the mark `{attribute 'no_copy'}`.
 #[tactic(auto, unfolding(st_tree::specs::Marks::is_no_copy))]
-pub fn is_no_copy(mark: &str) -> bool
-    ensures { result ≡ marks.is_no_copy mark.now }
+pub fn is_no_copy(text: &str) -> bool
+    ensures { result ≡ marks.is_no_copy text.now }
 {
-    is_attribute(mark.as_bytes(), b"'NO_COPY'")
+    let text = text.as_bytes();
+    is_pragma(text) && says_attribute(inside(text), b"'NO_COPY'")
 }
 
-/// Whether the text of a mark is `{attribute 'init_on_onlchange'}`.
+/// Whether a text is the mark `{attribute 'init_on_onlchange'}`.
 #[tactic(auto, unfolding(st_tree::specs::Marks::is_init_on_change))]
-pub fn is_init_on_change(mark: &str) -> bool
-    ensures { result ≡ marks.is_init_on_change mark.now }
+pub fn is_init_on_change(text: &str) -> bool
+    ensures { result ≡ marks.is_init_on_change text.now }
 {
-    is_attribute(mark.as_bytes(), b"'INIT_ON_ONLCHANGE'")
+    let text = text.as_bytes();
+    is_pragma(text) && says_attribute(inside(text), b"'INIT_ON_ONLCHANGE'")
 }
 
-/// The name, as it is spelled, in the text of a mark `{renamed_from NAME}`, and nothing for another text.
-pub fn old_name(mark: &str) -> Option<&str>
-    ensures some { IsSome result ↔ (marks.is_renamed mark.now ≡ true) }
-    ensures name { IfSome result (λ name. name.now ≡ marks.old_name mark.now) }
+/// The name, as it is spelled, in the mark `{renamed_from NAME}`, and nothing for another text.
+pub fn old_name(text: &str) -> Option<&str>
+    ensures some { IsSome result ↔ (marks.is_renamed text.now ≡ true) }
+    ensures name { IfSome result (λ name. name.now ≡ marks.old_name text.now) }
 {
-    let pragma = mark.as_bytes();
-    if !is_renamed(pragma) {
+    let text = text.as_bytes();
+    if !is_renamed(text) {
         return None;
     }
-    Some(ascii(word_front(behind_blanks(behind_renamed(pragma)))))
+    Some(ascii(word_front(behind_blanks(behind_renamed(inside(text))))))
 }
 
-#[tactic(auto, unfolding(st_tree::specs::Marks::is_mark, st_tree::specs::Marks::is_no_copy, st_tree::specs::Marks::is_init_on_change))]
+/// Whether a pragma counts.
+#[tactic(auto, unfolding(st_tree::specs::Marks::is_mark, st_tree::specs::Marks::is_no_copy, st_tree::specs::Marks::is_init_on_change, st_tree::specs::Marks::is_renamed))]
 pub(crate) fn is_mark(pragma: &[u8]) -> bool
+    requires { is_pragma_of pragma.now ≡ true }
     ensures { result ≡ marks.is_mark pragma.now }
 {
-    is_attribute(pragma, b"'NO_COPY'")
-        || is_attribute(pragma, b"'INIT_ON_ONLCHANGE'")
-        || is_renamed(pragma)
+    let words = inside(pragma);
+    says_attribute(words, b"'NO_COPY'")
+        || says_attribute(words, b"'INIT_ON_ONLCHANGE'")
+        || says_renamed(words)
 }

@@ -1,107 +1,136 @@
-ghost use Rattle.std.specs.Prelude.{◌≡◌, ◌<◌, ◌≤◌, length, take};
-ghost use Rattle.st_tree.specs.Pieces.{is_piece};
-ghost use Rattle.st_tree.specs.Tokens.{piece_kind};
-ghost use Rattle.st_lexer.specs.Fronts.{IsLongestFront};
-ghost use Rattle.st_lexer.specs.Reach.{reaches_of, longest_of, kind_of};
+//! The longest piece at a place.
 
+ghost use Rattle.std.specs.Prelude.{◌≡◌, ◌<◌, ◌==◌, false, true, length};
+ghost use Rattle.plc_text.specs.Words as words;
+ghost use Rattle.st_tree.specs.Pieces as pieces_spec;
+ghost use Rattle.st_lexer.specs.Private.Reach as reach;
+ghost use Rattle.st_lexer.specs.Private.Piece.{IsPieceAt, BeginsSymbol};
+
+use crate::characters::opens_comment;
 use crate::marks::is_mark;
-use crate::reach::{
-    address_len, comment_len, int_len, pragma_len, symbol_len, time_len, white_len, word_len,
-};
-use st_tree::{TokenKind, is_keyword};
+use crate::reach::{address_len, comment_len, int_len, pragma_len, time_len, word_len};
+use plc_text::{is_digit, is_letter};
+use st_tree::{Terminal, TokenKind, keyword, symbol};
 
-/// How far each form of piece reaches from the front of a text.
+/// The longest piece at a place that is not white space.
 #[derive(Clone, Copy)]
-pub(crate) struct Reaches {
-    white: usize,
-    comment: usize,
-    pragma: usize,
-    int: usize,
-    time: usize,
-    address: usize,
-    word: usize,
-    symbol: usize,
+pub(crate) enum Piece {
+    /// No piece begins there.
+    Bad,
+    /// A comment or a pragma that does not count, and its length in bytes.
+    Passed(usize),
+    /// A pragma that counts, and its length in bytes.
+    Mark(usize),
+    /// Another token: its length in bytes, its kind, and what it is to the grammar.
+    Token(usize, TokenKind, Terminal),
 }
 
-impl Reaches {
-    fn of(text: &[u8]) -> Reaches
-        ensures { result ≡ reaches_of text.now }
-    {
-        Reaches {
-            white: white_len(text),
-            comment: comment_len(text),
-            pragma: pragma_len(text),
-            int: int_len(text),
-            time: time_len(text),
-            address: address_len(text),
-            word: word_len(text),
-            symbol: symbol_len(text),
-        }
-    }
-
-    fn longest(&self) -> usize
-        ensures { result ≡ longest_of self.now }
-    {
-        let words = self.address.max(self.word.max(self.symbol));
-        let tokens = self.int.max(self.time.max(words));
-        self.white.max(self.comment.max(self.pragma.max(tokens)))
-    }
-
-    /// What a piece is, unless it is passed over.
-    fn kind(&self, piece: &[u8]) -> Option<TokenKind>
-        ensures { result ≡ kind_of self.now piece.now }
-    {
-        let len = piece.len();
-        if self.white == len || self.comment == len {
-            return None;
-        }
-        if self.pragma == len {
-            return if is_mark(piece) {
-                Some(TokenKind::Mark)
-            } else {
-                None
-            };
-        }
-        if self.int == len {
-            return Some(TokenKind::Int);
-        }
-        if self.time == len {
-            return Some(TokenKind::Time);
-        }
-        if self.address == len {
-            return Some(TokenKind::Address);
-        }
-        if self.word == len {
-            return Some(if is_keyword(piece) {
-                TokenKind::Keyword
-            } else {
-                TokenKind::Word
-            });
-        }
-        Some(TokenKind::Symbol)
-    }
-}
-
-/// The longest piece at the front of a text.
-#[derive(Clone, Copy)]
-pub(crate) struct Piece {
-    /// The length in bytes, 0 where no piece begins.
-    pub(crate) len: usize,
-    /// What the piece is, unless it is passed over.
-    pub(crate) kind: Option<TokenKind>,
-}
-
-pub(crate) fn piece_at(text: &[u8]) -> Piece
-    ensures longest { IsLongestFront is_piece text.now result.len }
-    ensures kind { 0 < result.len → result.kind ≡ piece_kind (take result.len text.now) }
+/// A word, or a time behind `T#` or `TIME#`.
+fn word_at(text: &[u8]) -> Piece
+    requires { words.begins words.is_letter text.now ≡ true }
+    ensures { IsPieceAt text.now result }
 {
-    let reaches = Reaches::of(text);
-    let len = reaches.longest();
+    let len = word_len(text);
     if len == 0 {
-        return Piece { len, kind: None };
+        return time_at(text);
     }
-    Piece {
-        len,
-        kind: reaches.kind(&text[..len]),
+    match keyword(&text[..len]) {
+        Some(terminal) => Piece::Token(len, TokenKind::Keyword, terminal),
+        None => Piece::Token(len, TokenKind::Word, Terminal::Word),
+    }
+}
+
+/// A time behind `T#` or `TIME#`.
+fn time_at(text: &[u8]) -> Piece
+    requires letter { words.begins words.is_letter text.now ≡ true }
+    requires no_word { reach.word_len text.now ≡ 0 }
+    ensures { IsPieceAt text.now result }
+{
+    let len = time_len(text);
+    if len == 0 {
+        return Piece::Bad;
+    }
+    Piece::Token(len, TokenKind::Time, Terminal::Duration)
+}
+
+fn int_at(text: &[u8]) -> Piece
+    requires { words.begins words.is_digit text.now ≡ true }
+    ensures { IsPieceAt text.now result }
+{
+    Piece::Token(int_len(text), TokenKind::Int, Terminal::Int)
+}
+
+fn address_at(text: &[u8]) -> Piece
+    requires { words.begins (λ c. c == 37) text.now ≡ true }
+    ensures { IsPieceAt text.now result }
+{
+    let len = address_len(text);
+    if len == 0 {
+        return Piece::Bad;
+    }
+    Piece::Token(len, TokenKind::Address, Terminal::Address)
+}
+
+fn pragma_at(text: &[u8]) -> Piece
+    requires { words.begins (λ c. c == 123) text.now ≡ true }
+    ensures { IsPieceAt text.now result }
+{
+    let len = pragma_len(text);
+    if len == 0 {
+        return Piece::Bad;
+    }
+    if is_mark(&text[..len]) {
+        Piece::Mark(len)
+    } else {
+        Piece::Passed(len)
+    }
+}
+
+fn comment_at(text: &[u8]) -> Piece
+    requires { pieces_spec.opens_comment text.now ≡ true }
+    ensures { IsPieceAt text.now result }
+{
+    let len = comment_len(text);
+    if len == 0 {
+        return Piece::Bad;
+    }
+    Piece::Passed(len)
+}
+
+/// A symbol, of two characters where it can be.
+fn symbol_at(text: &[u8]) -> Piece
+    requires { BeginsSymbol text.now }
+    ensures { IsPieceAt text.now result }
+{
+    if text.len() > 1 {
+        if let Some(terminal) = symbol(&text[..2]) {
+            return Piece::Token(2, TokenKind::Symbol, terminal);
+        }
+    }
+    match symbol(&text[..1]) {
+        Some(terminal) => Piece::Token(1, TokenKind::Symbol, terminal),
+        None => Piece::Bad,
+    }
+}
+
+/// The longest piece at the front of a text that begins with no white space.
+pub(crate) fn piece_at(text: &[u8]) -> Piece
+    requires some { 0 < length text.now }
+    requires inked { words.begins words.is_blank text.now ≡ false }
+    ensures { IsPieceAt text.now result }
+{
+    let first = text[0];
+    if is_letter(first) {
+        word_at(text)
+    } else if is_digit(first) {
+        int_at(text)
+    } else if first == b'%' {
+        address_at(text)
+    } else if first == b'{' {
+        pragma_at(text)
+    } else if opens_comment(text) {
+        comment_at(text)
+    } else {
+        symbol_at(text)
     }
 }

@@ -1,10 +1,11 @@
-ghost use Rattle.std.specs.Prelude.{◌≡◌, ◌+◌, ◌<◌, ◌≤◌, ◌^◌, length, map};
-ghost use Rattle.st_lexer.specs.Classes.{test_of};
-ghost use Rattle.st_lexer.specs.Reach as reach;
+//! How far each form of piece reaches from the front of a text.
 
-use crate::characters::{
-    Class, begins, begins_letter, begins_with, is_symbol, opens, opens_comment, run, spells,
-};
+ghost use Rattle.std.specs.Prelude.{◌≡◌, ◌+◌, ◌<◌, ◌≤◌, ◌^◌, length, map};
+ghost use Rattle.st_lexer.specs.Private.Characters.{test_of};
+ghost use Rattle.st_lexer.specs.Private.Reach as reach;
+
+use crate::characters::{Class, begins_letter, begins_with, run};
+use plc_text::{opens, spells};
 
 /// The length of a head and of what stands behind it, 0 where nothing stands behind it.
 fn with_head(head: usize, tail: usize) -> usize
@@ -12,13 +13,6 @@ fn with_head(head: usize, tail: usize) -> usize
     ensures { result ≡ reach.with_head head tail }
 {
     if tail == 0 { 0 } else { head + tail }
-}
-
-/// How far white space reaches: one character of it.
-pub(crate) fn white_len(text: &[u8]) -> usize
-    ensures { result ≡ reach.white_len text.now }
-{
-    if begins(text, Class::Blank) { 1 } else { 0 }
 }
 
 /// The length up to the end of the first mark, 0 where there is none.
@@ -231,22 +225,5 @@ pub(crate) fn word_len(text: &[u8]) -> usize
         0
     } else {
         len
-    }
-}
-
-/// How far a symbol reaches. `(*`, `/*` and `//` begin none.
-pub(crate) fn symbol_len(text: &[u8]) -> usize
-    ensures { result ≡ reach.symbol_len text.now }
-{
-    if opens_comment(text) {
-        return 0;
-    }
-    let two = &text[..text.len().min(2)];
-    if is_symbol(two) {
-        two.len()
-    } else if is_symbol(&text[..text.len().min(1)]) {
-        1
-    } else {
-        0
     }
 }

@@ -1,11 +1,13 @@
+//! All tokens of a source.
+
 ghost use Rattle.std.specs.Prelude.{◌≡◌, ◌<◌, ◌≤◌, ℕ, List, false, length, map, codes, IfOk, IfErr};
 ghost use Rattle.plc_text.specs.Code.{is_e17};
 ghost use Rattle.plc_text.specs.Text.{folded};
 ghost use Rattle.plc_text.specs.Lines.{line_of as line_at};
-ghost use Rattle.st_tree.specs.Tokens.{Token as PlainToken, Tokens, BadAfter};
+ghost use Rattle.st_tree.specs.Token.{Token as PlainToken, Tokens, BadAfter};
 ghost use Rattle.st_tree.specs.Headings.{declaration_before};
-ghost use Rattle.st_lexer.specs.Views.{token_view};
-ghost use Rattle.st_lexer.specs.Refused.{OnRefused, Says, SaysBad};
+ghost use Rattle.st_lexer.specs.Token.{token_view};
+ghost use Rattle.st_lexer.specs.Source.{OnRefused, Says, SaysBad};
 
 use crate::headings::declaration;
 use crate::lexer::Lexer;

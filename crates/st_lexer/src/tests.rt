@@ -1,6 +1,8 @@
-use crate::{Lexer, MAX_SOURCE, Next, is_init_on_change, is_no_copy, old_name, tokens};
+//! Texts with the tokens and lexemes that they are, and refusals.
+
+use crate::{Lexer, MAX_SOURCE, Next, is_init_on_change, is_no_copy, lexemes, old_name, tokens};
 use plc_text::{Denied, Text};
-use st_tree::TokenKind;
+use st_tree::{Marks, Terminal, TokenKind};
 use std::alloc::{AllocError, Global};
 use std::process::Abort;
 use std::test::Fail;
@@ -146,8 +148,29 @@ fn tells_marks(rt: HostRuntime) {
     assert_eq!(rt; old_name(mark), Some("Old_1"));
     assert_eq!(rt; old_name("{}"), None);
     assert!(rt; !is_no_copy(mark) && !is_init_on_change(mark));
+    assert!(rt; !is_no_copy("(attribute 'no_copy')") && old_name("renamed_from old").is_none());
     assert!(rt; is_no_copy("{attribute'No_Copy'}"));
     assert!(rt; is_init_on_change("{attribute 'init_on_onlchange' }"));
+}
+
+#[test]
+fn keeps_marks_with_the_lexeme_behind(rt: HostRuntime) -> Result<(), Fail> {
+    let alloc = rt.alloc();
+    let text = "{renamed_from a}{attribute 'no_copy'}x{} : {renamed_from b}\n{renamed_from c}y";
+    let found = tokens(alloc, text)?;
+    assert_eq!(rt; found.len(), 7);
+    assert_eq!(rt; found[0].terminal, None);
+    let found = lexemes(alloc, &found)?;
+    assert_eq!(rt; found.len(), 3);
+    let marks = found[0].copy_marks(alloc)?;
+    assert!(rt; marks.no_copy && !marks.init_on_change);
+    assert_eq!(rt; marks.renamed_from, Some(Text::copy(alloc, "A")?));
+    assert_eq!(rt; found[1].terminal, Terminal::Colon);
+    assert_eq!(rt; found[1].copy_marks(alloc)?, Marks::none());
+    assert!(rt; found[2].text == "y" && found[2].line == 2);
+    let marks = found[2].copy_marks(alloc)?;
+    assert_eq!(rt; marks.renamed_from, Some(Text::copy(alloc, "B")?));
+    Ok(())
 }
 
 #[test]

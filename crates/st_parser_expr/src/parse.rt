@@ -7,13 +7,13 @@ ghost use Rattle.st_tree.specs.Nesting as nesting;
 ghost use Rattle.st_parser_expr.specs.Parse as n;
 ghost use Rattle.st_parser_expr.specs.Private.Faults as faults;
 ghost use Rattle.st_parser_expr.specs.Private.Promises as m;
-ghost use Rattle.st_parser_expr.specs.Private.Promises.{lexemes_of};
+ghost use Rattle.st_lexer.specs.Lexeme.{lexemes_of};
 
 use crate::cursor::Cursor;
 use crate::depth::{Depth, behind};
 use crate::expr::chain;
-use crate::lexeme::Lexeme;
 use crate::stop::{Fault, ParseError, Stop};
+use st_lexer::Lexeme;
 use st_tree::Expr;
 use std::alloc::Global;
 

@@ -7,6 +7,9 @@ use Rattle.st_tree.specs.declared.statement.LabelEnd.TheVariants as labels
 use Rattle.st_tree.specs.Expression.{Expression}
 use Rattle.st_tree.specs.Statement as stmt
 use Rattle.st_tree.specs.Statement.{Statement, Statements, no_statements, statement_then, Branches, no_branches, branch_then, Cases, no_cases, case_then, Otherwise}
+use Rattle.st_tree.specs.Initial as init
+use Rattle.st_tree.specs.Initial.{Initial, Part, Parts, no_parts, part_then, FieldInits, no_fields, field_then}
+use Rattle.st_tree.specs.Grammar.{initial, first_part, more_parts, part, first_field, more_fields}
 use Rattle.st_tree.specs.Grammar.{Lexeme, Phrase, label_end, range_end, label, more_labels, first_label, step_by, statement, body, first_branch, more_branches, otherwise, cases}
 use Rattle.st_parser_expr.proofs.Fronts.{IsFront, IsHead, front, then_front, both_fronts, then_head, of_nothing, of_never, of_at, of_sign, of_spelled, of_literal, of_root, of_selectors, of_arguments, of_expression}
 
@@ -87,3 +90,30 @@ mutual
   of_cases : (cs : Cases ℕ) → IsFront (cases cs)
   of_cases no_cases = of_nothing
   of_cases (case_then ls ss cs) = front _ (then_front _ _ (of_first_label ls) (both_fronts _ _ (front _ (of_sign x.Colon)) (both_fronts _ _ (of_body ss) (of_cases cs))))
+
+mutual
+  pub of_initial : (i : Initial ℕ) → IsHead (initial i)
+  of_initial (init.Value e) = of_expression e 0
+  of_initial (init.Array line ps) = of_at line _ (then_front _ _ (of_sign x.OpenBracket) (both_fronts _ _ (front _ (of_first_part ps)) (front _ (of_sign x.CloseBracket))))
+  of_initial (init.Fields line fs) = of_at line _ (then_front _ _ (of_sign x.Open) (both_fronts _ _ (front _ (of_first_field fs)) (front _ (of_sign x.Close))))
+
+  of_first_part : (ps : Parts ℕ) → IsHead (first_part ps)
+  of_first_part no_parts = of_never
+  of_first_part (part_then p ps) = then_front _ _ (of_part p) (of_more_parts ps)
+
+  of_more_parts : (ps : Parts ℕ) → IsFront (more_parts ps)
+  of_more_parts no_parts = of_nothing
+  of_more_parts (part_then p ps) = front _ (then_front _ _ (of_sign x.Comma) (both_fronts _ _ (front _ (of_part p)) (of_more_parts ps)))
+
+  of_part : (p : Part ℕ) → IsHead (part p)
+  of_part (init.One i) = of_initial i
+  of_part (init.Repeated line digits i) = of_at line _ (then_head _ _ (of_spelled x.Int digits) (then_head _ _ (of_sign x.Open) (then_head _ _ (of_initial i) (of_sign x.Close))))
+
+  of_first_field : (fs : FieldInits ℕ) → IsHead (first_field fs)
+  of_first_field no_fields = of_never
+  of_first_field (field_then line n i fs) = then_head _ _ (of_at line _ (of_spelled x.Word n)) (then_head _ _ (of_sign x.Assign) (then_front _ _ (of_initial i) (of_more_fields fs)))
+
+  of_more_fields : (fs : FieldInits ℕ) → IsFront (more_fields fs)
+  of_more_fields no_fields = of_nothing
+  of_more_fields (field_then line n i fs) =
+      front _ (then_head _ _ (of_sign x.Comma) (then_head _ _ (of_at line _ (of_spelled x.Word n)) (then_head _ _ (of_sign x.Assign) (then_front _ _ (of_initial i) (of_more_fields fs)))))

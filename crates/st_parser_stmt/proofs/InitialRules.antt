@@ -81,7 +81,7 @@ pub fields-some : (ts : List Lexeme) → fields_at ts ≡ true → 0 < length ts
 fields-some [] h = cc
 fields-some (t ∷ ts) h = omega arith
 
-int-value : (K : State) (ts : List Lexeme) → is_open (next_terminal ts) ≡ false → machine (part_int ∷ K) ts ≡ machine (inside behind_int ∷ K) ts
+pub int-value : (K : State) (ts : List Lexeme) → is_open (next_terminal ts) ≡ false → machine (part_int ∷ K) ts ≡ machine (inside behind_int ∷ K) ts
 int-value K [] h = refl
 int-value K (t ∷ ts) h = at t.terminal h
   where

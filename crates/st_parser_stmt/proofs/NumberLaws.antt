@@ -1,5 +1,7 @@
 -- A terminal has a number of its own.
 use Rattle.std.proofs.Common.{◌≡◌, ℕ, zero, suc, Bool, true, false, List, [], ◌∷◌, Option, Some, None, refl, sym, ◌∙◌, ap, eqb-true, eq-eqb}
+use Rattle.std.specs.Prelude.{◌&&◌}
+use Rattle.std.specs.List.{list_all}
 use Rattle.st_types.specs.declared.elem.Elem.{Elem}
 use Rattle.st_types.specs.declared.elem.Elem.TheVariants as kind
 use Rattle.st_tree.specs.declared.terminal.Terminal.{Terminal}
@@ -38,3 +40,17 @@ same-not s t h = at (same_terminal s t) refl
     at : (b : Bool) → same_terminal s t ≡ b → b ≡ false
     at true e = absurd (h (same-is s t e))
     at false e = refl
+
+list_all-nth : (p : Terminal → Bool) (ts : List Terminal) (n : ℕ) (t : Terminal) → list_all p ts ≡ true → nth ts n ≡ Some t → p t ≡ true
+unfolding nth
+list_all-nth p [] n t h i = cc
+list_all-nth p (u ∷ ts) n t h i = at (λ h' k i'. list_all-nth p ts k t h' i') (p u) refl h n i
+  where
+    at : (list_all p ts ≡ true → (k : ℕ) → nth ts k ≡ Some t → p t ≡ true) → (b : Bool) → p u ≡ b → b && list_all p ts ≡ true → (n : ℕ) → nth (u ∷ ts) n ≡ Some t → p t ≡ true
+    at next false e h n i = cc
+    at next true e h zero i = let same : u ≡ t = cc in rw (← same) e
+    at next true e h (suc n) i = next h n i
+
+-- what holds of all that are listed holds of every one
+pub all-is : (p : Terminal → Bool) → list_all p all ≡ true → (t : Terminal) → p t ≡ true
+all-is p h t = list_all-nth p all (number t) t h (found t)

@@ -107,7 +107,7 @@ GivesAll (w ∷ K) ts = (m : List Lexeme) × Gives w ts m × GivesAll K m
 
 -- ---- what the machine of expressions accepts
 
-given_expression : (ts rest : List Lexeme) → Within e.start ts rest → (v : Expression ℕ) × expression v 0 ts rest
+pub given_expression : (ts rest : List Lexeme) → Within e.start ts rest → (v : Expression ℕ) × expression v 0 ts rest
 given_expression ts rest (a, w, h) =
     let d = p.derived a h in
     (d.0, subst (λ u. expression d.0 0 u rest) (sym w) (move (expression d.0 0) (front _ (f.of_expression d.0 0)) a rest d.1))

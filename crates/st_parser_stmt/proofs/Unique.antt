@@ -290,7 +290,7 @@ OneBody ss = (ss' : Statements ℕ) (ts ts' r r' : List Lexeme) → ts ≡ ts' �
 no_more : (r : List Lexeme) → starts_statement (next_terminal r) ≡ false → NoMore r
 no_more r free s m h = let bad : true ≡ false = sym (statement-starts s r m h) ∙ free in cc
 
-no_more-sign : (s : Terminal) (m r : List Lexeme) → starts_statement (Some s) ≡ false → sign s m r → NoMore m
+pub no_more-sign : (s : Terminal) (m r : List Lexeme) → starts_statement (Some s) ≡ false → sign s m r → NoMore m
 no_more-sign s m r free c = no_more m (ap starts_statement (next-sign s m r c) ∙ free)
 
 no_more-label : (r : List Lexeme) → label_at r ≡ true → NoMore r

@@ -1,7 +1,7 @@
 -- A text is one chain of longest pieces.
 use Rattle.std.proofs.Common.{◌≡◌, ℕ, ◌<◌, List, [], ◌∷◌, length, refl, sym, ap, subst, ◌∙◌, inl, inr, arith}
 use Rattle.std.proofs.lemmas.Bool.{both_ways, cases_lt}
-use Rattle.st_tree.specs.Tokens.{Token, IsPiece, IsChain, IsBad, Lexes, Tokens, BadAfter, tokens_between}
+use Rattle.st_tree.specs.Token.{Token, IsPiece, IsChain, IsBad, Lexes, Tokens, BadAfter, tokens_between}
 
 no_longer : (text : List ℕ) (start p q : ℕ) → IsPiece text start p → IsPiece text start q → p < q → ⊥
 no_longer text start p q one other less = both_ways _ (one.longest q less other.within) other.fits

@@ -1,52 +1,52 @@
--- The declaration that a place in a text is in, told from the tokens before it.
-use Rattle.std.specs.Prelude.{ℕ, Bool, true, false, ◌&&◌, not, List, [], ◌∷◌, codes, filter, if◌then◌else◌}
-use Rattle.plc_text.specs.Text.{folded}
-use Rattle.st_tree.specs.declared.token.TokenKind.{TokenKind}
-use Rattle.st_tree.specs.declared.token.TokenKind.TheVariants.{Word, Keyword, Mark}
-use Rattle.plc_text.specs.Words.{is_one_of}
-use Rattle.st_tree.specs.Tokens.{Token}
-
-abbrev pub is_word_kind : TokenKind → Bool
-is_word_kind Word = true
-is_word_kind _ = false
-
-abbrev pub is_keyword_kind : TokenKind → Bool
-is_keyword_kind Keyword = true
-is_keyword_kind _ = false
-
-abbrev pub is_mark_kind : TokenKind → Bool
-is_mark_kind Mark = true
-is_mark_kind _ = false
+-- The declaration that a place in a text is in, told from the lexemes around it.
+use Rattle.std.specs.Prelude.{ℕ, zero, suc, Bool, true, false, List, [], ◌∷◌, length, codes, Option, Some, None, if◌then◌else◌}
+use Rattle.std.specs.Option.{option_or, option_map_or}
+use Rattle.st_tree.specs.declared.terminal.Terminal.{Terminal}
+use Rattle.st_tree.specs.declared.terminal.Terminal.TheVariants as x
+use Rattle.st_tree.specs.Token.{Token}
+use Rattle.st_tree.specs.Grammar.{Lexeme}
+use Rattle.st_tree.specs.Reads.{lexemes}
 
 -- the keywords that begin a declaration
-abbrev pub headings : List (List ℕ)
-headings =
-    codes "TYPE" ∷ codes "INTERFACE" ∷ codes "CLASS" ∷ codes "FUNCTION_BLOCK" ∷ codes "FUNCTION" ∷ codes "PROGRAM" ∷
-    codes "CONFIGURATION" ∷ []
+abbrev pub is_heading : Terminal → Bool
+is_heading x.Type = true
+is_heading x.Interface = true
+is_heading x.Class = true
+is_heading x.FunctionBlock = true
+is_heading x.Function = true
+is_heading x.Program = true
+is_heading x.Configuration = true
+is_heading _ = false
 
-abbrev pub is_heading : Token → Bool
-is_heading t = is_keyword_kind t.kind && is_one_of headings t.text
+-- what may stand between such a keyword and its name
+abbrev pub is_modifier : Terminal → Bool
+is_modifier x.Abstract = true
+is_modifier x.Final = true
+is_modifier _ = false
 
--- ABSTRACT and FINAL, which may stand between such a keyword and its name
-abbrev pub is_modifier : Token → Bool
-is_modifier t = is_keyword_kind t.kind && is_one_of (codes "ABSTRACT" ∷ codes "FINAL" ∷ []) t.text
+abbrev pub is_word : Terminal → Bool
+is_word x.Word = true
+is_word _ = false
 
--- the name behind a heading, in upper case; `-` where none stands there
-abbrev pub name_behind : List Token → List ℕ
-name_behind [] = codes "-"
-name_behind (t ∷ ts) =
-    if is_modifier t then name_behind ts
-    else if is_word_kind t.kind then folded t.text
+-- the name at the front, behind ABSTRACT and FINAL; `-` where none stands there
+abbrev pub name_at : List Lexeme → List ℕ
+name_at [] = codes "-"
+name_at (t ∷ ts) =
+    if is_modifier t.terminal then name_at ts
+    else if is_word t.terminal then t.text
     else codes "-"
 
--- the name behind the last heading, or the one that was before
-abbrev pub last_name : List ℕ → List Token → List ℕ
-last_name before [] = before
-last_name before (t ∷ ts) = last_name (if is_heading t then name_behind ts else before) ts
+-- what stands behind the last heading among the first n lexemes, if there is one
+abbrev pub behind_heading : ℕ → List Lexeme → Option (List Lexeme)
+behind_heading zero ts = None
+behind_heading (suc n) [] = None
+behind_heading (suc n) (t ∷ ts) = option_or (behind_heading n ts) (if is_heading t.terminal then Some ts else None)
 
-abbrev pub is_no_mark : Token → Bool
-is_no_mark t = not (is_mark_kind t.kind)
+-- the declaration, in upper case, of the place that n lexemes stand before: the name behind the last heading among them, though it
+-- may stand at that place or behind it; `-` where there is no such heading
+abbrev pub declaration_of : ℕ → List Lexeme → List ℕ
+declaration_of n ts = option_map_or name_at (behind_heading n ts) (codes "-")
 
--- the declaration of the place behind these tokens, in upper case; `-` where none begins before it
+-- the declaration of the place behind all these tokens
 abbrev pub declaration_before : List Token → List ℕ
-declaration_before ts = last_name (codes "-") (filter is_no_mark ts)
+declaration_before tokens = declaration_of (length (lexemes tokens)) (lexemes tokens)

@@ -1,6 +1,6 @@
 pub mod Pieces
 pub mod Marks
-pub mod Tokens
+pub mod Token
 pub mod Number
 pub mod Duration
 pub mod Address

@@ -7,7 +7,7 @@ use Rattle.st_tree.specs.declared.terminal.Terminal.{Terminal}
 use Rattle.st_tree.specs.declared.terminal.Terminal.TheVariants as x
 use Rattle.st_tree.specs.declared.marks.Marks.{Marks}
 use Rattle.st_tree.specs.declared.unit.Unit.{Unit as ProgramText}
-use Rattle.st_tree.specs.Tokens.{Token, Tokens}
+use Rattle.st_tree.specs.Token.{Token, Tokens}
 use Rattle.st_tree.specs.Marks.{is_no_copy, is_init_on_change, is_renamed, old_name}
 use Rattle.st_tree.specs.Terminal.{keyword_terminals, symbol_terminals, terminal_in}
 use Rattle.st_tree.specs.Grammar.{Lexeme}

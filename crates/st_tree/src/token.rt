@@ -1,5 +1,7 @@
+//! The kinds of tokens.
+
 ghost use Rattle.std.specs.Prelude.{◌≡◌, ℕ, List};
-ghost use Rattle.st_tree.specs.Tokens.{Token, Tokens, BadAfter};
+ghost use Rattle.st_tree.specs.Token.{Token, Tokens, BadAfter};
 
 /// What a token is.
 #[derive(Clone, Copy, Debug, PartialEq, Eq)]

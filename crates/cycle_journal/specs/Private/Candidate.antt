@@ -20,8 +20,7 @@ use Rattle.cycle_journal.specs.declared.entry.Answer.TheVariants.{Done, Fault, H
 use Rattle.cycle_journal.specs.declared.line_error.LineError.{LineError}
 use Rattle.cycle_journal.specs.declared.line_error.LineError.TheVariants as errors
 use Rattle.plc_text.specs.Fields.{first_field, behind_field}
-use Rattle.plc_text.specs.Words.{is_number}
-use Rattle.plc_text.specs.Numbers.{number}
+use Rattle.plc_text.specs.Numbers.{number_in}
 use Rattle.cycle_journal.specs.Play.{play_numbered}
 
 infixl 10 ◌>>=◌
@@ -34,10 +33,6 @@ abbrev pub Gives : {X : Type 0} → Result X LineError → Option X → Type 0
 Gives (Ok x) reading = reading ≡ Some x
 Gives (Err errors.Bad) reading = reading ≡ None
 Gives (Err errors.NoMemory) reading = Unit {0}
-
--- the number of 32 bits that a field stands for
-unfoldable pub number_in : List ℕ → Option ℕ
-number_in word = if is_number word && nat_lt (number word) (2 ^ 32) then Some (number word) else None
 
 unfoldable pub code_in : List ℕ → Option Code
 code_in word = find (λ code. bytes_eq (code_name code) word) (E01 ∷ E02 ∷ E03 ∷ E04 ∷ E05 ∷ E06 ∷ E07 ∷ E08 ∷ E09 ∷ E10 ∷ E11 ∷ E12 ∷ E13 ∷ E14 ∷ E15 ∷ E16 ∷ E17 ∷ [])

@@ -1,24 +1,30 @@
-use Rattle.std.proofs.Common.{refl, arith}
-use Rattle.st_lexer.proofs.LexLaws.{rest_is, piece_step, ascii_step, line_step, token_step, skip_step}
+use Rattle.std.proofs.Common.{◌∙◌, sym, ap, length, drop, arith}
+use Rattle.plc_text.specs.Lines.{line_of}
+use Rattle.plc_text.specs.Words.{begins, is_blank}
+use Rattle.st_lexer.proofs.LexLaws.{passed_on, further, token_after, same_line}
 use Rattle.st_lexer.proofs.lexer.next_from.Goals as goal
 
-pub ascii-requires : goal.ascii-requires
-ascii-requires c = ascii_step _ _ _ c.in-Some.kind (omega (arith, c.if-piece-eq0.false)) c.piece_at-piece.ensures.longest c.piece_at-piece.ensures.kind c.in-Some.is
-
-pub returns-in-Some-clause-counted : goal.returns-in-Some-clause-counted
-returns-in-Some-clause-counted c = line_step c.args.text.now _ c.pieces.start _ _ _ (rest_is c.args.text.now _ c.pieces.start c.as_bytes.ensures.value) c.pieces.invariant.counted c.line_feeds.ensures
-
-pub returns-in-Some-clause-given : goal.returns-in-Some-clause-given
-returns-in-Some-clause-given c = (
-  token_step c.args.text.now _ _ c.args.place c.pieces.start _ _ _ c.in-Some.kind c.pieces.invariant.passed c.pieces.invariant.within
-      (rest_is c.args.text.now _ c.pieces.start c.as_bytes.ensures.value) (omega (arith, c.if-piece-eq0.false)) c.piece_at-piece.ensures.longest c.piece_at-piece.ensures.kind c.in-Some.is c.ascii.ensures c.pieces.invariant.counted,
-  refl,
-)
+pub pieces-smaller : goal.pieces-smaller
+pieces-smaller c =
+    further c.args.text.now c.as_bytes-bytes.result.now c.pieces.start.at c.in-Passed.len c.behind.result.at c.behind_blanks-start-in-Passed.result.at c.as_bytes-bytes.ensures.value
+    (omega (arith, c.pieces-test.true, ap length c.as_bytes-bytes.ensures.value)) c.in-Passed.ensures c.behind.ensures.at c.behind_blanks-start-in-Passed.ensures.passed c.behind_blanks-start-in-Passed.ensures.within
 
 pub pieces-preserved : goal.pieces-preserved
 pieces-preserved c = record {
-  within = (piece_step c.args.text.now _ c.pieces.start _ c.pieces.invariant.within (rest_is c.args.text.now _ c.pieces.start c.as_bytes.ensures.value) (omega (arith, c.if-piece-eq0.false)) c.piece_at-piece.ensures.longest).within;
-  counted = line_step c.args.text.now _ c.pieces.start _ _ _ (rest_is c.args.text.now _ c.pieces.start c.as_bytes.ensures.value) c.pieces.invariant.counted c.line_feeds.ensures;
-  passed = skip_step c.args.text.now _ c.args.place c.pieces.start _ _ c.pieces.invariant.passed c.pieces.invariant.within
-      (rest_is c.args.text.now _ c.pieces.start c.as_bytes.ensures.value) (omega (arith, c.if-piece-eq0.false)) c.piece_at-piece.ensures.longest c.piece_at-piece.ensures.kind c.in_default.is;
+  within = omega (arith, c.behind_blanks-start-in-Passed.ensures.within, ap length c.as_bytes-bytes.ensures.value);
+  counted = c.behind_blanks-start-in-Passed.ensures.counted ∙ ap (λ t. line_of t c.behind_blanks-start-in-Passed.result.at) c.as_bytes-bytes.ensures.value;
+  passed = passed_on c.args.text.now c.as_bytes-bytes.result.now c.args.place.at c.pieces.start.at c.in-Passed.len c.behind.result.at c.behind_blanks-start-in-Passed.result.at c.as_bytes-bytes.ensures.value
+      c.pieces.invariant.within c.pieces.invariant.passed c.in-Passed.ensures c.behind.ensures.at c.behind_blanks-start-in-Passed.ensures.passed;
+  inked = ap (λ t. begins is_blank (drop c.behind_blanks-start-in-Passed.result.at t)) (sym c.as_bytes-bytes.ensures.value) ∙ c.behind_blanks-start-in-Passed.ensures.ends;
 }
+
+pub returns-in-Mark-clause-given : goal.returns-in-Mark-clause-given
+returns-in-Mark-clause-given c =
+    rw c.behind-in-Mark.ensures.at
+    (token_after c.args.text.now c.args.place.at c.pieces.start.at _ _ c.pieces.invariant.passed c.token_at.ensures.lexed, sym c.token_at.ensures.end)
+
+pub returns-in-Token-clause-counted : goal.returns-in-Token-clause-counted
+returns-in-Token-clause-counted c = same_line c.args.text.now c.as_bytes-bytes.result.now c.pieces.start.at c.in-Token.len c.pieces.start.line c.as_bytes-bytes.ensures.value c.pieces.invariant.counted c.in-Token.ensures.1
+
+pub returns-in-Token-clause-given : goal.returns-in-Token-clause-given
+returns-in-Token-clause-given c = (token_after c.args.text.now c.args.place.at c.pieces.start.at _ _ c.pieces.invariant.passed c.token_at-in-Token.ensures.lexed, sym c.token_at-in-Token.ensures.end)

@@ -1,5 +1,5 @@
 use Rattle.std.proofs.Common.{map, ap, ◌∙◌}
-use Rattle.st_lexer.specs.Reach.{part_len}
+use Rattle.st_lexer.specs.Private.Reach.{part_len}
 use Rattle.st_lexer.proofs.LoopLaws.{parts_are}
 use Rattle.st_lexer.proofs.reach.+parts_len.Goals as goal
 

@@ -1,5 +1,5 @@
 use Rattle.std.proofs.Common.{◌≡◌, drop}
-use Rattle.st_lexer.specs.Reach as reach
+use Rattle.st_lexer.specs.Private.Reach as reach
 use Rattle.st_lexer.proofs.reach.closing_len.Given as goal
 
 abbrev pub invariant-loop-i : goal.invariant-loop-i

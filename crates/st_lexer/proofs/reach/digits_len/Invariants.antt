@@ -1,6 +1,6 @@
 use Rattle.std.proofs.Common.{◌≡◌, ◌≤◌, drop}
-use Rattle.st_lexer.specs.Reach as reach
-use Rattle.st_lexer.specs.Classes.{test_of}
+use Rattle.st_lexer.specs.Private.Reach as reach
+use Rattle.st_lexer.specs.Private.Characters.{test_of}
 use Rattle.st_lexer.proofs.reach.digits_len.Given as goal
 
 abbrev pub invariant-loop-i : goal.invariant-loop-i

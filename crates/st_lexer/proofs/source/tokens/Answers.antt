@@ -1,6 +1,6 @@
 use Rattle.std.proofs.Common.{◌∙◌, ap, map}
 use Rattle.st_tree.specs.Headings.{declaration_before}
-use Rattle.st_lexer.specs.Views.{token_view}
+use Rattle.st_lexer.specs.Token.{token_view}
 use Rattle.st_lexer.proofs.SourceLaws.{smaller, found_more, found_all, found_bad, says_bad}
 use Rattle.st_lexer.proofs.source.tokens.Goals as goal
 

@@ -1,6 +1,6 @@
 use Rattle.std.proofs.Common.{◌≡◌, ◌-◌, length, map}
-use Rattle.st_tree.specs.Tokens.{Lexes}
-use Rattle.st_lexer.specs.Views.{token_view}
+use Rattle.st_tree.specs.Token.{Lexes}
+use Rattle.st_lexer.specs.Token.{token_view}
 use Rattle.st_lexer.proofs.source.tokens.Given as goal
 
 -- the tokens before the lexer's place were found

@@ -1,0 +1,13 @@
+use Rattle.std.proofs.Common.{◌≡◌, List, ℕ, [], ◌∷◌, Option, None, Some, sym, ap, ◌∙◌, ◌++◌, ◌≢◌, subst}
+use Rattle.std.specs.Prelude.{MatchOption}
+use Rattle.std.specs.Option.{unwrap_or}
+use Rattle.std.proofs.lemmas.Bool.Decides.{Decides-eqb}
+use Rattle.std.proofs.lemmas.Slice.Eq.{strip_suffix_is}
+use Rattle.scenario.specs.Private.Lines.{without_return}
+use Rattle.scenario.proofs.EndLaws.{stripped}
+use Rattle.scenario.proofs.lines.without_return.Goals as goal
+
+pub returns : goal.returns
+returns c =
+    let is = strip_suffix_is Decides-eqb c.args.bytes.now (13 ∷ []) c.strip_suffix.result c.strip_suffix.ensures.cases in
+    rw c.unwrap_or.ensures (stripped c.args.bytes c.strip_suffix.result is)

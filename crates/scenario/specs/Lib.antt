@@ -1,0 +1,4 @@
+pub mod Scenario
+pub mod Reading
+pub mod Made
+pub mod Private

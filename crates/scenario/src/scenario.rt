@@ -1,0 +1,20 @@
+//! What a scenario holds.
+
+use cycle_journal::Play;
+use plc_text::{Items, Text};
+use st_names::Names;
+use std::sync::Arc;
+
+/// A first program, the sources that changes load in its place, and the plays. Threads share all but the program.
+#[derive(Drop)]
+pub struct Scenario {
+    /// The text of the first program: its lines, each followed by LF.
+    pub program: Text,
+    /// The texts of the sources by their names in upper case, in the order of the scenario.
+    pub sources: Arc<Names<Text>>,
+    /// The plays in their order. The first has number 1.
+    pub plays: Arc<Items<Play>>,
+    /// For each phase the number of its first play and the number behind its last. In an empty phase both are the number
+    /// that the next play has or would have.
+    pub phases: Arc<Items<(u32, u32)>>,
+}

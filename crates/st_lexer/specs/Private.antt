@@ -1,0 +1,3 @@
+pub mod Characters
+pub mod Reach
+pub mod Piece

@@ -1,0 +1,10 @@
+pub mod FormLaws
+pub mod Closed
+pub mod Takes
+pub mod Accepted
+pub mod Given
+pub mod OneWay
+pub mod FineRules
+pub mod FormOf
+pub mod RuleForms
+pub mod Units

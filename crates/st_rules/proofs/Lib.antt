@@ -1,0 +1,10 @@
+pub mod Booleans
+pub mod Numbers
+pub mod ChainLaws
+pub mod LeadsLaws
+pub mod TypeLaws
+pub mod FaultLaws
+pub mod ClassLaws
+pub mod InterfaceLaws
+pub mod SignatureLaws
+mod Examples

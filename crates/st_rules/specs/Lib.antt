@@ -1,0 +1,11 @@
+pub mod Faults
+pub mod Numbered
+pub mod Named
+pub mod Chains
+pub mod Modifiers
+pub mod Classes
+pub mod Interfaces
+pub mod Types
+pub mod Signatures
+pub mod ClassRules
+pub mod InterfaceRules

@@ -1,0 +1,21 @@
+//! The rules of the language, as definitions: which declaration a name means, what conforms to what, signatures, and which rules a
+//! declaration breaks (IEC 61131-3:2013, 6.5 and 6.6). The checker, its tables and the meaning of programs stand on these words.
+#![tactic(auto)]
+
+mod faults;
+mod ids;
+mod laws;
+mod modifiers;
+mod signature;
+#[cfg(test)]
+mod tests;
+
+pub use faults::{at, earlier, when};
+pub use ids::{MethodId, PrototypeId};
+pub use laws::{class_laws, conformance_laws, fault_laws, interface_laws, signature_laws};
+pub use modifiers::{
+    Access, is_abstract, is_constant, is_final, is_override, method_access, written_access,
+};
+pub use signature::{
+    Parameter, ResultType, Signature, Signatures, differs_from_hook, is_hook, same_signature,
+};
