@@ -3,12 +3,12 @@ use Rattle.std.proofs.Common.{◌≡◌, ℕ, zero, suc, Bool, true, false, List
 use Rattle.std.specs.Prelude.{if◌then◌else◌, option_map, slice_get}
 use Rattle.std.proofs.lemmas.Slice.Eq.{bytes_eq-Decides}
 use Rattle.plc_text.specs.Words.{same}
-use Rattle.st_values.specs.Program.{Variable, Region, Program}
+use Rattle.st_values.specs.Program.{Region}
 use Rattle.st_values.specs.Rules.{first_place}
 use Rattle.st_values.specs.Value.{◌>>=◌}
-use Rattle.st_values.specs.Shape.{Shape, Fields, no_fields, field_then}
-use Rattle.st_change.specs.From.{Pairs, is_name, comes_from, unless_later, old_name, or_this, new_name, field_name, field_number, region_name, names_of_regions, region_number}
-use Rattle.st_change.specs.Laws.{has_name, Once, has_region, DistinctRegions, has_field, Distinct, DistinctFields}
+use Rattle.st_values.specs.Shape.{Fields, no_fields, field_then}
+use Rattle.st_change.specs.From.{Pairs, is_name, comes_from, unless_later, old_name, or_this, new_name, field_name, field_number, names_of_regions}
+use Rattle.st_change.specs.Laws.{has_name, Once, has_region, DistinctRegions, has_field, DistinctFields}
 
 pub same-true : (a b : List ℕ) → same a b ≡ true → a ≡ b
 same-true a b e = (bytes_eq-Decides a b).0 e

@@ -1,14 +1,14 @@
 -- Paths before and after are inverse to each other, and counterparts name each other.
-use Rattle.std.proofs.Common.{◌≡◌, ◌↔◌, ℕ, ℤ, Bool, true, false, List, [], ◌∷◌, Option, Some, None, refl, sym, ap, ◌∙◌, subst}
-use Rattle.std.specs.Prelude.{if◌then◌else◌, nat_lt, not, ◌&&◌, option_map}
+use Rattle.std.proofs.Common.{◌≡◌, ℕ, Bool, true, false, List, [], ◌∷◌, Option, Some, None, refl, ap, ◌∙◌, subst}
+use Rattle.std.specs.Prelude.{if◌then◌else◌, nat_lt, ◌&&◌, option_map}
 use Rattle.plc_text.specs.Words.{same}
 use Rattle.st_tree.specs.declared.path.Step.TheVariants as step
-use Rattle.st_values.specs.Program.{Variable, Region, Program}
-use Rattle.st_values.specs.Value.{Path, Step, place_of_index, ◌>>=◌}
+use Rattle.st_values.specs.Program.{Program}
+use Rattle.st_values.specs.Value.{Path, Step, place_of_index}
 use Rattle.st_values.specs.Shape.{Shape, Elementary, Enumeration, Reference, Interface, Array, Structure, Instance, Fields, no_fields, field_then, element_shape, region_shape, path_shape}
-use Rattle.st_change.specs.From.{Pairs, old_name, new_name, Way, by_name, by_index, field_name, field_number, field_named, part_by, way_of, step_of, ways_of, steps_of, region_name, region_number, region_pairs, pairs_of, old_way, new_way, old_ways, new_ways, old_region, new_region, old_path, new_path}
-use Rattle.st_change.specs.Counterpart.{kept, unmarked_region, unmarked_steps, moves, is_instance_of, old_counterpart, new_counterpart}
-use Rattle.st_change.specs.Laws.{Once, Distinct, DistinctFields, NamesDiffer, Paired, PathLaws}
+use Rattle.st_change.specs.From.{old_name, new_name, Way, by_name, by_index, field_name, field_number, field_named, part_by, way_of, step_of, ways_of, steps_of, region_name, region_pairs, pairs_of, old_way, new_way, old_ways, new_ways, old_region, new_region, old_path, new_path}
+use Rattle.st_change.specs.Counterpart.{moves, is_instance_of, old_counterpart, new_counterpart}
+use Rattle.st_change.specs.Laws.{Distinct, DistinctFields, Paired, PathLaws}
 use Rattle.st_change.proofs.Names.{then_is, then_some, mapped_some, passed, old_new, new_old, name_number, number_name, region_number_of, region_name_of}
 
 both : (a b : Bool) → (a && b) ≡ true → (a ≡ true) × (b ≡ true)
@@ -91,8 +91,8 @@ steps_ways (w ∷ ws) ss sh e =
     let d : a.0 ∷ c.0 ≡ ss = let x = c.2 in cc in
     subst (λ x. ways_of sh x ≡ Some (w ∷ ws)) d
     (then_is (way_of sh a.0) _ w (w ∷ ws) (step_way sh a.0 w a.1)
-     (then_is (part_by sh w) _ b.0 (w ∷ ws) b.1
-      (then_is (ways_of b.0 c.0) _ ws (w ∷ ws) (steps_ways ws c.0 b.0 c.1) refl)))
+    (then_is (part_by sh w) _ b.0 (w ∷ ws) b.1
+    (then_is (ways_of b.0 c.0) _ ws (w ∷ ws) (steps_ways ws c.0 b.0 c.1) refl)))
 
 ways_steps : (ss : List Step) (ws : List Way) (sh : Shape) → Distinct sh → ways_of sh ss ≡ Some ws → steps_of sh ws ≡ Some ss
 ways_steps [] ws sh u e = let d : [] ≡ ws = cc in subst (λ x. steps_of sh x ≡ Some []) d refl
@@ -103,8 +103,8 @@ ways_steps (s ∷ ss) ws sh u e =
     let d : a.0 ∷ c.0 ≡ ws = let x = c.2 in cc in
     subst (λ x. steps_of sh x ≡ Some (s ∷ ss)) d
     (then_is (step_of sh a.0) _ s (s ∷ ss) (way_step sh s a.0 u a.1)
-     (then_is (part_by sh a.0) _ b.0 (s ∷ ss) b.1
-      (then_is (steps_of b.0 c.0) _ ss (s ∷ ss) (ways_steps ss c.0 b.0 (part_distinct sh b.0 a.0 u b.1) c.1) refl)))
+    (then_is (part_by sh a.0) _ b.0 (s ∷ ss) b.1
+    (then_is (steps_of b.0 c.0) _ ss (s ∷ ss) (ways_steps ss c.0 b.0 (part_distinct sh b.0 a.0 u b.1) c.1) refl)))
 
 -- ---- ways before and after
 
@@ -130,8 +130,8 @@ module _ (old new : Program) (good : Paired old new) where
       let d : a.0 ∷ c.0 ≡ os = let x = c.2 in cc in
       subst (λ x. new_ways old new sh x ≡ Some (w ∷ ws)) d
       (then_is (new_way old new sh a.0) _ w (w ∷ ws) (way_new sh w a.0 a.1)
-       (then_is (part_by sh w) _ b.0 (w ∷ ws) b.1
-        (then_is (new_ways old new b.0 c.0) _ ws (w ∷ ws) (ways_new ws c.0 b.0 c.1) refl)))
+      (then_is (part_by sh w) _ b.0 (w ∷ ws) b.1
+      (then_is (new_ways old new b.0 c.0) _ ws (w ∷ ws) (ways_new ws c.0 b.0 c.1) refl)))
 
   ways_old : (os ws : List Way) (sh : Shape) → new_ways old new sh os ≡ Some ws → old_ways old new sh ws ≡ Some os
   ways_old [] ws sh e = let d : [] ≡ ws = cc in subst (λ x. old_ways old new sh x ≡ Some []) d refl
@@ -142,8 +142,8 @@ module _ (old new : Program) (good : Paired old new) where
       let d : a.0 ∷ c.0 ≡ ws = let x = c.2 in cc in
       subst (λ x. old_ways old new sh x ≡ Some (o ∷ os)) d
       (then_is (old_way old new sh a.0) _ o (o ∷ os) (way_old sh a.0 o a.1)
-       (then_is (part_by sh a.0) _ b.0 (o ∷ os) b.1
-        (then_is (old_ways old new b.0 c.0) _ os (o ∷ os) (ways_old os c.0 b.0 c.1) refl)))
+      (then_is (part_by sh a.0) _ b.0 (o ∷ os) b.1
+      (then_is (old_ways old new b.0 c.0) _ os (o ∷ os) (ways_old os c.0 b.0 c.1) refl)))
 
   -- ---- regions
 
@@ -174,11 +174,11 @@ module _ (old new : Program) (good : Paired old new) where
       let is : record { region = a.0; steps = g.0 } ≡ r = let x = g.2 in cc in
       subst (λ x. new_path old new x ≡ Some q) is
       (then_is (new_region old new a.0) _ q.region q (region_new q.region a.0 a.1)
-       (then_is (region_shape old a.0) _ c.0 q c.1
-        (then_is (region_shape new q.region) _ b.0 q b.1
-         (then_is (ways_of c.0 g.0) _ f.0 q (steps_ways f.0 g.0 c.0 g.1)
-          (then_is (new_ways old new b.0 f.0) _ d.0 q (ways_new d.0 f.0 b.0 f.1)
-           (then_is (steps_of b.0 d.0) _ q.steps q (ways_steps q.steps d.0 b.0 (good.new_differ.shapes q.region b.0 b.1) d.1) refl))))))
+      (then_is (region_shape old a.0) _ c.0 q c.1
+      (then_is (region_shape new q.region) _ b.0 q b.1
+      (then_is (ways_of c.0 g.0) _ f.0 q (steps_ways f.0 g.0 c.0 g.1)
+      (then_is (new_ways old new b.0 f.0) _ d.0 q (ways_new d.0 f.0 b.0 f.1)
+      (then_is (steps_of b.0 d.0) _ q.steps q (ways_steps q.steps d.0 b.0 (good.new_differ.shapes q.region b.0 b.1) d.1) refl))))))
 
   path_old : (q r : Path) → new_path old new r ≡ Some q → old_path old new q ≡ Some r
   path_old q r e =
@@ -191,11 +191,11 @@ module _ (old new : Program) (good : Paired old new) where
       let is : record { region = a.0; steps = g.0 } ≡ q = let x = g.2 in cc in
       subst (λ x. old_path old new x ≡ Some r) is
       (then_is (old_region old new a.0) _ r.region r (region_old a.0 r.region a.1)
-       (then_is (region_shape new a.0) _ c.0 r c.1
-        (then_is (region_shape old r.region) _ b.0 r b.1
-         (then_is (ways_of c.0 g.0) _ f.0 r (steps_ways f.0 g.0 c.0 g.1)
-          (then_is (old_ways old new c.0 f.0) _ d.0 r (ways_old d.0 f.0 c.0 f.1)
-           (then_is (steps_of b.0 d.0) _ r.steps r (ways_steps r.steps d.0 b.0 (good.old_differ.shapes r.region b.0 b.1) d.1) refl))))))
+      (then_is (region_shape new a.0) _ c.0 r c.1
+      (then_is (region_shape old r.region) _ b.0 r b.1
+      (then_is (ways_of c.0 g.0) _ f.0 r (steps_ways f.0 g.0 c.0 g.1)
+      (then_is (old_ways old new c.0 f.0) _ d.0 r (ways_old d.0 f.0 c.0 f.1)
+      (then_is (steps_of b.0 d.0) _ r.steps r (ways_steps r.steps d.0 b.0 (good.old_differ.shapes r.region b.0 b.1) d.1) refl))))))
 
   -- ---- counterparts
 

@@ -1,11 +1,11 @@
 -- Laws of changes and of runs on one thread.
-use Rattle.std.specs.Prelude.{◌≡◌, ◌≢◌, ◌↔◌, ℕ, Bool, true, false, if◌then◌else◌, List, [], ◌∷◌, Option, Some}
+use Rattle.std.specs.Prelude.{◌≡◌, ◌≢◌, ◌↔◌, ℕ, Bool, true, false, if◌then◌else◌, List, [], ◌∷◌, Some}
 use Rattle.plc_text.specs.Words.{same}
 use Rattle.plc_text.specs.declared.refusal.Refusal.{Refusal}
 use Rattle.cycle_journal.specs.declared.entry.Answer.{Answer}
 use Rattle.cycle_journal.specs.declared.entry.Answer.TheVariants as answer
 use Rattle.cycle_journal.specs.declared.play.Play.{Play}
-use Rattle.st_values.specs.Program.{Variable, Region, Program}
+use Rattle.st_values.specs.Program.{Region, Program}
 use Rattle.st_values.specs.Value.{Path}
 use Rattle.st_values.specs.Shape.{Shape, Array, Structure, Instance, Fields, no_fields, field_then, region_shape, path_shape}
 use Rattle.st_change.specs.From.{Pairs, region_pairs, pairs_of, old_path, new_path}

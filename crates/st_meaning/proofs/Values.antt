@@ -1,6 +1,6 @@
 -- Values that fit their shapes, read and replaced by paths, and stores that are good.
-use Rattle.std.proofs.Common.{◌≡◌, ◌≢◌, ◌<◌, ℕ, zero, suc, ℤ, pos, negsuc, Bool, true, false, List, [], ◌∷◌, ◌++◌, Option, Some, None, refl, sym, ap, ◌∙◌, subst, arith}
-use Rattle.std.specs.Prelude.{if◌then◌else◌, slice_get, nat_lt, nat_eq, ◌-ℤ◌, replicate}
+use Rattle.std.proofs.Common.{◌≡◌, ◌≢◌, ◌<◌, ℕ, zero, suc, Bool, true, false, List, [], ◌∷◌, ◌++◌, Option, Some, None, refl, sym, ap, ◌∙◌, subst, arith}
+use Rattle.std.specs.Prelude.{if◌then◌else◌, slice_get, nat_lt, nat_eq}
 use Rattle.std.proofs.lemmas.Bool.{eqb-true, eq-eqb}
 use borrow.Author.Tests.{ltb-true}
 use Rattle.st_tree.specs.declared.path.Step.{Step}
@@ -11,9 +11,9 @@ use Rattle.st_values.specs.Program.{Variable, Region, Program}
 use Rattle.st_values.specs.Rules.{◌or_else◌}
 use Rattle.st_values.specs.Shape.{Shape, Elementary, Enumeration, Reference, Interface, Array, Structure, Instance, Fields, no_fields, field_then, field, element_shape, shape_part, shape_at, shape_of, region_shape, path_shape}
 use Rattle.st_values.specs.Value.{Path, Value, number, reference, array, structure, instance, Values, no_values, value_then, Members, no_members, member_then, Store, names_of, ◌>>=◌, element, with_element, with_element_at, member, with_member, place_of_index, part, with_part, value_at, value_with, put}
-use Rattle.st_values.specs.Initial.{number_given, list_given, fields_given, given_for, elements, init, inits, init_of, initial_value, initial_regions, initial_store}
+use Rattle.st_values.specs.Initial.{list_given, fields_given, given_for, elements, init, inits, init_of, initial_value, initial_regions, initial_store}
 use Rattle.st_values.proofs.ValueLaws.{then_some, one_some, made, Put, put_in, names_stay, member_put, member_stays}
-use Rattle.st_meaning.specs.Good.{Held, Fit, FitAll, FitEach, GoodAt, region_names, Good}
+use Rattle.st_meaning.specs.Good.{Fit, FitAll, FitEach, GoodAt, region_names, Good}
 use Rattle.st_meaning.specs.Promise.{Each, StartsRight, StartRight, VariableFits, ProgramIs}
 use Rattle.st_meaning.specs.GoodLaws.{GoodLaws}
 
@@ -175,12 +175,16 @@ module _ (p : Program) where
       by r true w a m =
           let d = eqb-true q.region r w in
           subst (λ i. GoodAt p (region_shape p i) (member (with_member s q.region m.becomes) i)) d
-          (record { by = λ x i.
-              let y : a.0 ≡ x = one_some (region_shape p q.region) a.0 x a.1 i in
-              let old = (g.each q.region).by a.0 a.1 in
-              let z : old.0 ≡ m.was = one_some (member s q.region) old.0 m.was old.1 m.there in
-              (m.becomes, member_put s q.region m.was m.becomes m.there,
-               subst (λ u. Fit p u m.becomes) y (fit_with q.steps a.0 m.was sh new m.becomes (subst (Fit p a.0) z old.2) a.2 k m.below)) })
+          (record {
+            by = λ x i.
+                let y : a.0 ≡ x = one_some (region_shape p q.region) a.0 x a.1 i in
+                let old = (g.each q.region).by a.0 a.1 in
+                let z : old.0 ≡ m.was = one_some (member s q.region) old.0 m.was old.1 m.there in (
+                  m.becomes,
+                  member_put s q.region m.was m.becomes m.there,
+                  subst (λ u. Fit p u m.becomes) y (fit_with q.steps a.0 m.was sh new m.becomes (subst (Fit p a.0) z old.2) a.2 k m.below),
+                );
+          })
       by r false w a m =
           subst (GoodAt p (region_shape p r)) (sym (member_stays s q.region r m.becomes (differ q.region r w))) (g.each r)
 
@@ -220,9 +224,11 @@ module _ (p : Program) where
   each_starts : (xs : List Region) (r : ℕ) → Each (λ x. VariableFits p x.variable) xs → GoodAt p (slice_get xs r >>= λ x. shape_of p x.variable.kind) (member (initial_regions p xs) r)
   each_starts [] r h = record { by = λ sh e. cc }
   each_starts (x ∷ xs) zero h =
-      record { by = λ sh e.
-          let a : h.0.0 ≡ sh = one_some (shape_of p x.variable.kind) h.0.0 sh h.0.1 e in
-          (initial_value p x.variable, refl, subst (λ y. Fit p y (initial_value p x.variable)) a (value_fits x.variable h.0.0 h.0.1 h.0.2)) }
+      record {
+        by = λ sh e.
+            let a : h.0.0 ≡ sh = one_some (shape_of p x.variable.kind) h.0.0 sh h.0.1 e in
+            (initial_value p x.variable, refl, subst (λ y. Fit p y (initial_value p x.variable)) a (value_fits x.variable h.0.0 h.0.1 h.0.2));
+      }
   each_starts (x ∷ xs) (suc r) h = each_starts xs r h.1
 
   pub initial_good : ProgramIs p → Good p (initial_store p)
