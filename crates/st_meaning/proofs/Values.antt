@@ -48,7 +48,7 @@ module _ (p : Program) where
   field_replaced (field_then v x fs) (member_then n y ms) zero sh new h e f = let a : sh ≡ x = cc in (h.0, subst (λ z. Fit p z new) a f, h.2)
   field_replaced (field_then v x fs) (member_then n y ms) (suc k) sh new h e f = (h.0, h.1, field_replaced fs ms k sh new h.2 e f)
 
-  element_fits : (n : ℕ) (sh : Shape) (vs : Values) (k : ℕ) (w : Value) → FitAll p n sh vs → element vs k ≡ Some w → Fit p sh w
+  pub element_fits : (n : ℕ) (sh : Shape) (vs : Values) (k : ℕ) (w : Value) → FitAll p n sh vs → element vs k ≡ Some w → Fit p sh w
   element_fits zero sh no_values k w h e = cc
   element_fits zero sh (value_then v vs) k w h e = absurd h
   element_fits (suc n) sh no_values k w h e = absurd h
