@@ -1,22 +1,18 @@
 -- A play has one answer.
-use Rattle.std.proofs.Common.{◌≡◌, ◌≢◌, ℕ, suc, ◌+◌, Bool, true, false, List, [], ◌∷◌, Option, Some, None, refl, sym, ap, ◌∙◌, subst}
+use Rattle.std.proofs.Common.{◌≡◌, ◌≢◌, ℕ, List, Option, Some, refl, sym, ap, ◌∙◌, subst}
 use Rattle.std.specs.Prelude.{slice_get}
-use Rattle.plc_text.specs.declared.fault.FaultKind.{FaultKind}
 use Rattle.plc_text.specs.declared.refusal.Refusal.{Refusal}
 use Rattle.cycle_journal.specs.declared.entry.Answer.{Answer}
 use Rattle.cycle_journal.specs.declared.entry.Answer.TheVariants as answer
-use Rattle.cycle_journal.specs.declared.entry.CycleReply.{CycleReply}
 use Rattle.cycle_journal.specs.declared.play.Play.{Play}
-use Rattle.cycle_journal.specs.declared.play.Play.TheVariants as play
 use Rattle.st_values.specs.Program.{Program}
-use Rattle.st_values.specs.Value.{Store}
 use Rattle.st_meaning.specs.Cycle.{cycle}
 use Rattle.st_meaning.specs.Footprint.{IsFootprint}
 use Rattle.st_meaning.proofs.Footprints.{footprint_laws}
-use Rattle.st_change.specs.Hook.{Ran, ran, stopped}
+use Rattle.st_change.specs.Hook.{ran, stopped}
 use Rattle.st_change.specs.Change.{change}
-use Rattle.st_change.specs.OneThread.{Controller, task_named, is_held, released, since, loaded, cycle_answer, after_cycle, hook_refusal, One, cycle_without_task, cycle_held, cycle_run, reset_without_task, reset_done, change_loaded, change_refused, change_stopped, change_without_memory}
-use Rattle.st_change.specs.Laws.{Judges, OneAnswer}
+use Rattle.st_change.specs.OneThread.{Controller, task_named, loaded, cycle_answer, after_cycle, hook_refusal, One, cycle_without_task, cycle_held, cycle_run, reset_without_task, reset_done, change_loaded, change_refused, change_stopped, change_without_memory}
+use Rattle.st_change.specs.Laws.{Judges}
 
 some_same : {A : Type 0} (o : Option A) (a b : A) → o ≡ Some a → o ≡ Some b → a ≡ b
 some_same o a b e f = cc

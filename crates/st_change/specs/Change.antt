@@ -1,5 +1,5 @@
 -- The first load and the five phases of a change, on whole stores.
-use Rattle.std.specs.Prelude.{ℕ, suc, Bool, true, false, not, if◌then◌else◌, List, [], ◌∷◌, ◌++◌, Option, Some, None, is_some, slice_get}
+use Rattle.std.specs.Prelude.{ℕ, suc, Bool, true, false, not, if◌then◌else◌, List, [], ◌∷◌, ◌++◌, Option, Some, None, is_some}
 use Rattle.st_values.specs.Program.{Region, Program}
 use Rattle.st_values.specs.Value.{Value, Store, no_members, member_then, member, ◌>>=◌}
 use Rattle.st_values.specs.Shape.{Shape, region_shape}

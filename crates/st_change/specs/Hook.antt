@@ -1,9 +1,9 @@
 -- The hooks of instances: which are called, in which order, and what they do.
-use Rattle.std.specs.Prelude.{ℕ, Bool, true, false, not, if◌then◌else◌, List, [], ◌∷◌, ◌++◌, reverse, codes, Option, Some, None, is_some}
+use Rattle.std.specs.Prelude.{ℕ, Bool, not, if◌then◌else◌, List, [], ◌∷◌, ◌++◌, reverse, codes, Option, Some, None, is_some}
 use Rattle.plc_text.specs.declared.fault.FaultKind.{FaultKind}
 use Rattle.st_values.specs.Program.{Parameter, Class, Routine, Program, class_at, chain_of, own_method}
 use Rattle.st_values.specs.Value.{Path, Store}
-use Rattle.st_meaning.specs.State.{State, Frame, Outcome, Done, Fault, Run, ◌>>◌, spend}
+use Rattle.st_meaning.specs.State.{Frame, Outcome, Done, Fault, Run, ◌>>◌, spend}
 use Rattle.st_meaning.specs.Operation.{truth}
 use Rattle.st_meaning.specs.Call.{Given, given_value}
 use Rattle.st_meaning.specs.Enter.{most_calls, enter}

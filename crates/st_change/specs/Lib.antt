@@ -6,3 +6,4 @@ pub mod Hook
 pub mod Change
 pub mod OneThread
 pub mod Laws
+pub mod CarryLaws

@@ -1,5 +1,5 @@
 -- Runs on one thread: what each play is answered, and the state that it leaves.
-use Rattle.std.specs.Prelude.{◌≡◌, ℕ, zero, suc, ◌+◌, Bool, true, false, if◌then◌else◌, List, [], ◌∷◌, ◌++◌, Option, Some, None, refl, slice_get}
+use Rattle.std.specs.Prelude.{◌≡◌, ℕ, suc, ◌+◌, Bool, true, false, if◌then◌else◌, List, [], ◌∷◌, ◌++◌, Option, Some, None, refl, slice_get}
 use Rattle.plc_text.specs.Words.{same}
 use Rattle.plc_text.specs.declared.code.Code.TheVariants as code
 use Rattle.plc_text.specs.declared.fault.FaultKind.{FaultKind}
@@ -17,7 +17,7 @@ use Rattle.st_values.specs.Program.{Program}
 use Rattle.st_values.specs.Value.{Store}
 use Rattle.st_meaning.specs.Cycle.{cycle}
 use Rattle.st_meaning.specs.Footprint.{IsFootprint}
-use Rattle.st_change.specs.Hook.{Ran, ran, stopped}
+use Rattle.st_change.specs.Hook.{ran, stopped}
 use Rattle.st_change.specs.Change.{start, change}
 
 -- ---- states

@@ -1,6 +1,8 @@
 //! What a change of a program does to what it held, first loads, and runs on one thread.
 #![tactic(auto)]
 
+mod laws;
 mod one_thread;
 
+pub use laws::{carry_laws, path_laws};
 pub use one_thread::{Judge, one_answer};

@@ -20,5 +20,4 @@ pub trait Judge {
 /// A play has one answer and leaves one state, unless a change finds no memory.
 pub fn one_answer<J: Judge>()
     ensures { (sources : List (List ℕ)) → OneAnswer J.accepts J.refuses sources }
-{
-}
+{}

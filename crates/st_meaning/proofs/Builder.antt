@@ -1,6 +1,5 @@
 -- Words to write checked programs by hand.
-use Rattle.std.proofs.Common.{ℕ, zero, suc, ℤ, pos, Bool, true, false, List, [], ◌∷◌, Option, Some, None}
-use Rattle.st_types.specs.declared.elem.Elem.{Elem}
+use Rattle.std.proofs.Common.{ℕ, suc, ℤ, true, false, List, [], ◌∷◌, Option, Some, None}
 use Rattle.st_types.specs.declared.elem.Elem.TheVariants as elem
 use Rattle.st_types.specs.declared.st_type.StType.{StType}
 use Rattle.st_types.specs.declared.st_type.StType.TheVariants as type
@@ -8,7 +7,6 @@ use Rattle.st_tree.specs.declared.declaration.SectionSort.{SectionSort}
 use Rattle.st_tree.specs.declared.declaration.SectionSort.TheVariants as sort
 use Rattle.st_tree.specs.declared.expression.Operator.{Operator}
 use Rattle.st_tree.specs.declared.expression.Root.TheVariants as root
-use Rattle.st_tree.specs.declared.marks.Marks.{Marks}
 use Rattle.st_tree.specs.declared.program.Note.{Note}
 use Rattle.st_tree.specs.declared.program.TaskDecl.{TaskDecl}
 use Rattle.st_tree.specs.declared.program.Target.{Target}
@@ -20,7 +18,7 @@ use Rattle.st_tree.specs.Initial.{Initial}
 use Rattle.st_tree.specs.Reads.{no_marks}
 use Rattle.st_tree.specs.Statement.{Statement, Assign, Statements, statements, If, branch_then, no_branches, Nothing, Else, Otherwise}
 use Rattle.st_tree.specs.Statement as effect
-use Rattle.st_values.specs.Program.{Variable, Recipient, to_local, to_variable, Parameter, Routine, Sort, a_class, a_block, a_program, Class, Region, Program}
+use Rattle.st_values.specs.Program.{Variable, to_local, Parameter, Routine, a_block, a_program, Class, Region}
 
 abbrev pub bool : StType
 bool = type.Elementary elem.Bool

@@ -7,7 +7,7 @@ use Rattle.st_values.specs.Value.{Store}
 use Rattle.st_meaning.specs.State.{Outcome, Done, Fault}
 use Rattle.st_meaning.specs.Enter.{run_task}
 use Rattle.st_meaning.specs.ProcessImage.{located_of, latch}
-use Rattle.st_meaning.specs.Cycle.{begun, ended, cycle}
+use Rattle.st_meaning.specs.Cycle.{begun, ended}
 use Rattle.st_meaning.specs.Laws.{FaultsLeave}
 
 left : (p : Program) (fs : List ℕ) (s : Store) (o : Outcome (Unit {0})) (f : FaultAt) → (ended p fs s o).0 ≡ reply.Fault f → (ended p fs s o).1 ≡ s

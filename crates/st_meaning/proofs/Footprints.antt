@@ -1,7 +1,7 @@
 -- What is written is in the footprint, and a cycle does not hang on how the footprint is listed.
-use Rattle.std.proofs.Common.{◌≡◌, ℕ, zero, suc, Bool, true, false, List, [], ◌∷◌, ◌++◌, Option, Some, None, refl, sym, ap, ◌∙◌, subst, inl, inr, ⊎_elim, eq-eqb, arith}
+use Rattle.std.proofs.Common.{◌≡◌, ℕ, Bool, true, false, List, [], ◌∷◌, ◌++◌, Option, Some, None, refl, sym, ap, ◌∙◌, subst, inl, inr, ⊎_elim, eq-eqb}
 use Rattle.std.specs.Prelude.{◌⊎◌, ◌&&◌, ◌+◌, nat_eq, ◌-◌, ◌||◌, if◌then◌else◌, map, max}
-use Rattle.std.specs.List.{list_any, range_with_len}
+use Rattle.std.specs.List.{range_with_len}
 use Rattle.std.proofs.lemmas.Bool.{eqb-true}
 use Rattle.st_types.specs.declared.st_type.StType.{StType}
 use Rattle.st_types.specs.declared.st_type.StType.TheVariants as type
@@ -25,7 +25,7 @@ use Rattle.st_meaning.specs.Expression.{selector_note}
 use Rattle.st_meaning.specs.Use.{Called, Owner, the_region, the_instances, Use, names, follows, calls, changes, is_followed, named_region, root_owner, owner_along, changed, owner_uses, name_uses, root_uses, called_of, call_use, called_parameters, is_bound, bound_uses, along_uses, selector_uses, index_uses, expression_uses, tail_uses, argument_uses, place_uses, call_uses, tried, step_uses, statement_uses, body_uses, branch_uses, case_uses, otherwise_uses, routine_uses}
 use Rattle.st_meaning.specs.Footprint.{Has, Touches, Alters, Footprint, own_program, touched, Writes, latched, altered, IsFootprint}
 use Rattle.st_meaning.specs.Footprint as footprint
-use Rattle.st_meaning.specs.ProcessImage.{Located, located_of, is_in, input_value, or_same, latch, share, number_or_zero, is_shown, output_byte, covered, size_of, first_byte, collect}
+use Rattle.st_meaning.specs.ProcessImage.{Located, located_of, is_in, input_value, or_same, latch, share, number_or_zero, output_byte, covered, size_of, first_byte, collect}
 use Rattle.st_meaning.specs.Enter.{run_task}
 use Rattle.st_meaning.specs.State.{Outcome, Done, Fault}
 use Rattle.cycle_journal.specs.declared.entry.CycleReply.TheVariants as reply

@@ -3,3 +3,4 @@ pub mod Examples
 pub mod Ticks
 pub mod Faults
 pub mod Footprints
+pub mod Values

@@ -1,14 +1,12 @@
 -- Ticks are never made, so that a loop is its unrolling.
 use Rattle.std.proofs.Common.{◌≡◌, ◌≤◌, ◌<◌, ℕ, zero, suc, ℤ, pos, negsuc, Bool, true, false, List, [], ◌∷◌, Option, Some, None, refl, sym, ap, ◌∙◌, arith, le_refl, le_trans}
-use Rattle.std.specs.Prelude.{if◌then◌else◌, ◌+ℤ◌}
-use Rattle.std.specs.Ordering.{int_eq}
+use Rattle.std.specs.Prelude.{if◌then◌else◌}
 use Rattle.plc_text.specs.declared.fault.FaultKind.{FaultKind}
 use Rattle.plc_text.specs.declared.fault.FaultKind.TheVariants as fault
 use Rattle.st_types.specs.declared.elem.Elem.{Elem}
 use Rattle.st_types.specs.declared.st_type.StType.{StType}
 use Rattle.st_types.specs.declared.st_type.StType.TheVariants as type
 use Rattle.plc_num.specs.Arithmetic.{quotient, remainder}
-use Rattle.plc_num.specs.Wrapping.{wrapped}
 use Rattle.st_tree.specs.declared.expression.Operator.{Operator}
 use Rattle.st_tree.specs.declared.expression.Operator.TheVariants as operator
 use Rattle.st_tree.specs.declared.expression.Root.{Root}
@@ -21,16 +19,16 @@ use Rattle.st_tree.specs.Expression.{Expression, Int, Typed, Time, True, False, 
 use Rattle.st_tree.specs.Expression as tree
 use Rattle.st_tree.specs.Statement.{Statement, Empty, Assign, Attempt, Exit, Continue, Return, If, Case, For, While, Repeat, Statements, no_statements, statement_then, Branches, no_branches, branch_then, Cases, no_cases, case_then, Otherwise, Nothing, Else}
 use Rattle.st_tree.specs.Statement as effect_tree
-use Rattle.st_values.specs.Program.{Recipient, to_local, to_variable, Parameter, Routine, Program, lookup, body_of, class_number, conforms}
-use Rattle.st_values.specs.Value.{Value, number, reference, member, Store}
-use Rattle.st_meaning.specs.State.{Spot, in_store, in_frame, Slot, Frame, State, Outcome, Done, Fault, Run, go_on, ◌>>=◌, ◌>>◌, gives, fails, at_line, some_or, there, spend_from, spend, moment, region_value, set_region, frame_at, frame_value, local_value, set_local, own_in, own, local_spot_in, local_spot, push, pop_from, pop, into, read, write, path_of}
-use Rattle.st_meaning.specs.Operation.{number_in, path_in, class_in, is_true, elem_of, divided, operation, is_decided}
-use Rattle.st_meaning.specs.Place.{root_note, named_spot, root_spot, held_spot, followed, instance_of, part_named}
-use Rattle.st_meaning.specs.Call.{Search, by_instance, from_class, Callee, a_conversion, a_function, a_method, a_body, callee_of, start_class, Given, for_local, for_variable, given_value, given_place, is_in_out, number_to, parameter_named, next_parameter, behind_next, same_in_outs, frame_of, set_variables, result_of, output_value, Enter, run_routine, class_at_spot, call, call_value, call_effect}
-use Rattle.st_meaning.specs.Expression.{selector_note, place_value, name_value, operated, passed, output_of, placed, along, selected, indexed, value, chained, bound_place, operand, arguments, outputs, place}
+use Rattle.st_values.specs.Program.{Recipient, to_local, to_variable, Parameter, Routine, Program}
+use Rattle.st_values.specs.Value.{Value, member}
+use Rattle.st_meaning.specs.State.{Spot, in_store, in_frame, Frame, State, Outcome, Done, Fault, Run, go_on, ◌>>=◌, ◌>>◌, gives, fails, at_line, some_or, spend_from, spend, moment, region_value, set_region, frame_at, frame_value, local_value, set_local, own_in, own, local_spot_in, local_spot, push, pop_from, pop, read, write}
+use Rattle.st_meaning.specs.Operation.{number_in, divided, operation}
+use Rattle.st_meaning.specs.Place.{named_spot, root_spot, held_spot, followed, instance_of, part_named}
+use Rattle.st_meaning.specs.Call.{by_instance, from_class, Callee, a_conversion, a_function, a_method, a_body, callee_of, Given, for_local, for_variable, same_in_outs, set_variables, output_value, Enter, run_routine, class_at_spot, call, call_value, call_effect}
+use Rattle.st_meaning.specs.Expression.{place_value, name_value, operated, passed, output_of, placed, along, selected, indexed, value, chained, bound_place, operand, arguments, outputs, place}
 use Rattle.st_meaning.specs.Loop.{Flow, goes_on, exits, continues, returns, unless_left, after_turn, turn, turns, loop, turn_until, turns_until, loop_until}
-use Rattle.st_meaning.specs.Statement.{end_value, hold, within, no_zero, add_step, then_step, count, attempted, step_value, effect, effects, first_true, first_holding, otherwise_effect}
-use Rattle.st_meaning.specs.Enter.{most_calls, enter, program_body, run_programs, programs_of, run_task}
+use Rattle.st_meaning.specs.Statement.{hold, no_zero, add_step, then_step, count, attempted, step_value, effect, effects, first_true, first_holding, otherwise_effect}
+use Rattle.st_meaning.specs.Enter.{most_calls, enter, run_programs, programs_of}
 use Rattle.st_meaning.specs.Laws.{NoMore, TicksFall, Falls, LoopsUnroll}
 
 lower : {A : Type 0} (n k : ℕ) (o : Outcome A) → n ≤ k → NoMore n o → NoMore k o

@@ -1,6 +1,5 @@
 -- Calls: what is called, its arguments, and the frame in which it runs (IEC 61131-3:2013, 6.6.1.4, 6.6.2.2 and 6.6.5.5).
 use Rattle.std.specs.Prelude.{ℕ, Bool, true, false, if◌then◌else◌, List, [], ◌∷◌, Option, Some, None, slice_get, slice_set}
-use Rattle.plc_text.specs.declared.fault.FaultKind.TheVariants as fault
 use Rattle.st_types.specs.declared.st_type.StType.{StType}
 use Rattle.st_types.specs.declared.st_type.StType.TheVariants as type
 use Rattle.plc_num.specs.Conversion.{converted}

@@ -1,10 +1,8 @@
 -- Routines and tasks: how a routine is entered, and what the programs of a task do (IEC 61131-3:2013, 6.6.1.3 and 6.8.2).
 use Rattle.std.specs.Prelude.{ℕ, zero, suc, List, [], ◌∷◌, Option, Some, None, slice_get}
 use Rattle.plc_text.specs.declared.fault.FaultKind.TheVariants as fault
-use Rattle.st_types.specs.declared.st_type.StType.{StType}
-use Rattle.st_types.specs.declared.st_type.StType.TheVariants as type
 use Rattle.st_tree.specs.declared.program.TaskDecl.{TaskDecl}
-use Rattle.st_values.specs.Program.{Variable, Region, Routine, Program, body_of}
+use Rattle.st_values.specs.Program.{Routine, Program, body_of}
 use Rattle.st_values.specs.Value.{◌>>=◌ as ◌>>?◌}
 use Rattle.st_meaning.specs.State.{Run, ◌>>=◌, ◌>>◌, gives, fails, there, push, pop}
 use Rattle.st_meaning.specs.Call.{Enter, frame_of, set_variables, class_of_kind}

@@ -1,5 +1,5 @@
 -- Values and places of expressions (IEC 61131-3:2013, 7.3.2).
-use Rattle.std.specs.Prelude.{ℤ, pos, if◌then◌else◌, List, [], ◌∷◌, Option, Some, None}
+use Rattle.std.specs.Prelude.{pos, if◌then◌else◌, List, [], ◌∷◌, Option, Some, None}
 use Rattle.plc_text.specs.declared.fault.FaultKind.TheVariants as fault
 use Rattle.st_types.specs.declared.st_type.StType.{StType}
 use Rattle.st_types.specs.declared.st_type.StType.TheVariants as type
@@ -19,8 +19,8 @@ use Rattle.st_tree.specs.Number.{number_of}
 use Rattle.st_values.specs.Program.{Parameter, Program}
 use Rattle.st_values.specs.Value.{Value, number, reference}
 use Rattle.st_values.specs.Initial.{constant}
-use Rattle.st_meaning.specs.State.{Spot, Frame, Run, ◌>>=◌, ◌>>◌, gives, fails, some_or, there, moment, into, read, write, path_of}
-use Rattle.st_meaning.specs.Operation.{number_in, truth, elem_of, literal_value, operation, is_decided}
+use Rattle.st_meaning.specs.State.{Spot, Frame, Run, ◌>>=◌, ◌>>◌, gives, fails, some_or, moment, into, read, write, path_of}
+use Rattle.st_meaning.specs.Operation.{number_in, elem_of, literal_value, operation, is_decided}
 use Rattle.st_meaning.specs.Place.{root_note, root_spot, followed, part_named, index_in, element_kind}
 use Rattle.st_meaning.specs.Call.{Given, given_value, given_place, is_in_out, parameter_named, next_parameter, behind_next, output_value, callee_of, Enter, call, call_value}
 

@@ -1,5 +1,5 @@
 -- The regions that the cycles of a task touch, and those that they write.
-use Rattle.std.specs.Prelude.{◌≡◌, ℕ, List, [], ◌∷◌, Option, Some, ◌⊎◌, IsTrue, slice_get}
+use Rattle.std.specs.Prelude.{◌≡◌, ℕ, List, [], ◌∷◌, Some, ◌⊎◌, IsTrue, slice_get}
 use Rattle.st_types.specs.declared.st_type.StType.{StType}
 use Rattle.st_tree.specs.declared.address.Area.TheVariants as area
 use Rattle.st_values.specs.Program.{Routine, Program, conforms, lookup, body_of}

@@ -13,3 +13,4 @@ pub mod Use
 pub mod Footprint
 pub mod Promise
 pub mod Laws
+pub mod GoodLaws

@@ -1,5 +1,5 @@
 -- How statements go on, and loops (IEC 61131-3:2013, 7.3.3.4).
-use Rattle.std.specs.Prelude.{ℕ, zero, suc, Bool, true, false, if◌then◌else◌}
+use Rattle.std.specs.Prelude.{ℕ, zero, suc, Bool, if◌then◌else◌}
 use Rattle.plc_text.specs.declared.fault.FaultKind.TheVariants as fault
 use Rattle.st_meaning.specs.State.{Run, ◌>>=◌, ◌>>◌, gives, fails, spend}
 

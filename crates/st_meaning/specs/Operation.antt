@@ -1,5 +1,5 @@
 -- Numbers and truth, literals, and what operators give (IEC 61131-3:2013, 6.3.2, 6.6.2.5 and table 71).
-use Rattle.std.specs.Prelude.{ℕ, zero, suc, ℤ, pos, negsuc, neg_ℤ, int_lt, int_le, Bool, true, false, not, ◌&&◌, nat_eq, if◌then◌else◌, List, [], ◌∷◌, Option, Some, None}
+use Rattle.std.specs.Prelude.{ℕ, zero, ℤ, pos, neg_ℤ, int_lt, int_le, Bool, true, false, not, ◌&&◌, nat_eq, List, [], ◌∷◌, Option, Some, None}
 use Rattle.std.specs.Ordering.{int_eq}
 use Rattle.plc_text.specs.declared.fault.FaultKind.TheVariants as fault
 use Rattle.st_types.specs.declared.elem.Elem.{Elem}

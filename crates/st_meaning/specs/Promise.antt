@@ -1,5 +1,5 @@
 -- What the checker promises of a program: that its notes are right, that types and arguments suit, and that types unfold.
-use Rattle.std.specs.Prelude.{◌≡◌, ◌<◌, false, ℕ, zero, suc, ℤ, pos, List, [], ◌∷◌, length, Option, Some, None, IsTrue, slice_get}
+use Rattle.std.specs.Prelude.{◌≡◌, ◌<◌, false, ℕ, ℤ, pos, List, [], ◌∷◌, length, Option, Some, None, IsTrue, slice_get}
 use Rattle.st_types.specs.declared.elem.Elem.{Elem}
 use Rattle.st_types.specs.declared.elem.Elem.TheVariants as elem
 use Rattle.st_types.specs.declared.st_type.StType.{StType, out-StType}
@@ -28,16 +28,16 @@ use Rattle.st_values.specs.Program.{Variable, Recipient, to_local, to_variable, 
 use Rattle.st_values.specs.Rules.{◌or_else◌}
 use Rattle.st_values.specs.Shape as shape
 use Rattle.st_values.specs.Shape.{Shape, Fields, no_fields, field_then, fields_of, has_instance, shape_of, path_shape}
-use Rattle.st_values.specs.Value.{Path, Value, number, reference}
+use Rattle.st_values.specs.Value.{number}
 use Rattle.st_meaning.specs.Operation.{literal_value}
 use Rattle.st_meaning.specs.Place.{root_note}
 use Rattle.st_meaning.specs.Call.{from_class, Callee, a_conversion, a_function, a_body, callee_of, parameter_named, next_parameter, behind_next}
-use Rattle.st_meaning.specs.Enter.{program_body, programs_of}
+use Rattle.st_meaning.specs.Enter.{programs_of}
 use Rattle.st_meaning.specs.Expression.{selector_note}
 use Rattle.st_meaning.specs.Footprint.{Has, Enters}
-use Rattle.st_meaning.specs.Good.{Fit, Held}
+use Rattle.st_meaning.specs.Good.{Fit}
 use Rattle.st_meaning.specs.ProcessImage.{Located, located_of}
-use Rattle.st_meaning.specs.Use.{Called, called_of, called_parameters, receiver, last_kind}
+use Rattle.st_meaning.specs.Use.{Called, called_of, called_parameters, last_kind}
 
 -- ---- types
 

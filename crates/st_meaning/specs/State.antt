@@ -38,7 +38,6 @@ abbrev pub Run : Type 0 → Type 0
 Run A = ℕ → State → Outcome A
 
 infixl 10 ◌>>=◌ ◌>>◌
-
 abbrev pub go_on : {A B : Type 0} → Outcome A → (A → State → Outcome B) → Outcome B
 go_on (Done a s) f = f a s
 go_on (Fault k line) f = Fault k line

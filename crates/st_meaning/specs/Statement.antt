@@ -1,28 +1,26 @@
 -- Effects of statements (IEC 61131-3:2013, 7.3.3).
-use Rattle.std.specs.Prelude.{ℕ, zero, ℤ, pos, negsuc, ◌+ℤ◌, int_le, Bool, true, false, ◌&&◌, ◌||◌, if◌then◌else◌, List, [], ◌∷◌, Option, Some, None}
+use Rattle.std.specs.Prelude.{zero, ℤ, pos, negsuc, ◌+ℤ◌, int_le, Bool, true, false, ◌&&◌, ◌||◌, if◌then◌else◌, List, [], ◌∷◌, Option, Some, None}
 use Rattle.std.specs.Ordering.{int_eq}
 use Rattle.plc_text.specs.declared.fault.FaultKind.TheVariants as fault
 use Rattle.st_types.specs.declared.elem.Elem.{Elem}
 use Rattle.st_types.specs.declared.st_type.StType.{StType}
 use Rattle.plc_num.specs.Wrapping.{wrapped}
-use Rattle.st_tree.specs.declared.expression.Root.{Root}
-use Rattle.st_tree.specs.declared.expression.Root.TheVariants as root
 use Rattle.st_tree.specs.declared.path.Path.{Path}
 use Rattle.st_tree.specs.declared.program.Note.{Note}
 use Rattle.st_tree.specs.declared.statement.Label.{Label}
 use Rattle.st_tree.specs.declared.statement.LabelEnd.{LabelEnd}
 use Rattle.st_tree.specs.declared.statement.LabelEnd.TheVariants as label
-use Rattle.st_tree.specs.Expression.{Expression, Selectors, no_selectors, Arguments}
+use Rattle.st_tree.specs.Expression.{Expression}
 use Rattle.st_tree.specs.Statement.{Statement, Empty, Assign, Attempt, Call, Exit, Continue, Return, If, Case, For, While, Repeat, Statements, no_statements, statement_then, Branches, no_branches, branch_then, Cases, no_cases, case_then, Otherwise, Nothing, Else}
-use Rattle.st_values.specs.Program.{Program, conforms, class_number}
-use Rattle.st_values.specs.Value.{Value, number, reference, ◌>>=◌ as ◌>>?◌}
+use Rattle.st_values.specs.Program.{Program, conforms}
+use Rattle.st_values.specs.Value.{Value, number, reference}
 use Rattle.st_values.specs.Initial.{constant}
-use Rattle.st_meaning.specs.State.{Spot, in_store, Run, ◌>>=◌, ◌>>◌, gives, fails, at_line, there, spend, read, write}
-use Rattle.st_meaning.specs.Operation.{number_in, path_in, class_in, is_true, elem_of}
+use Rattle.st_meaning.specs.State.{Spot, in_store, Run, ◌>>=◌, ◌>>◌, gives, fails, at_line, spend, read, write}
+use Rattle.st_meaning.specs.Operation.{number_in, path_in, is_true, elem_of}
 use Rattle.st_meaning.specs.Place.{named_spot}
 use Rattle.st_meaning.specs.Call.{callee_of, Enter, call, call_effect, class_at_spot}
 use Rattle.st_meaning.specs.Expression.{value, place, operand, arguments, outputs}
-use Rattle.st_meaning.specs.Loop.{Flow, goes_on, exits, continues, returns, unless_left, after_turn, loop, loop_until}
+use Rattle.st_meaning.specs.Loop.{Flow, goes_on, exits, continues, returns, unless_left, loop, loop_until}
 
 -- ---- CASE
 

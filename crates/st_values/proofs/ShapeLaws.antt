@@ -1,7 +1,6 @@
 -- A deeper look unfolds a type to the same shape.
-use Rattle.std.proofs.Common.{◌≡◌, ◌≤◌, ℕ, zero, suc, ◌+◌, ◌-◌, ℤ, List, [], ◌∷◌, Option, Some, None, refl, sym, ap, ◌∙◌, subst, arith}
+use Rattle.std.proofs.Common.{◌≡◌, ℕ, zero, suc, ◌+◌, List, [], ◌∷◌, Option, Some, None, refl, sym, ap, ◌∙◌, subst, arith}
 use Rattle.std.specs.Prelude.{slice_get, option_map}
-use Rattle.st_types.specs.declared.elem.Elem.{Elem}
 use Rattle.st_types.specs.declared.st_type.StType.{StType, out-StType}
 use Rattle.st_types.specs.declared.st_type.StType.TheVariants as type
 use Rattle.st_types.specs.declared.st_type.StType.TheOpen.{StType-F}
@@ -91,11 +90,12 @@ each_deep p (v ∷ vs) no_fields h = absurd h
 each_deep p (v ∷ vs) (field_then w sh fs) h =
     let n = h.1.depth in
     let r = each_deep p vs fs h.2 in
-    let deep = r.0 + n in
-    (deep,
-     ap (λ o. o >>= λ s. fields_by (shape_within p deep) vs >>= λ rest. Some (field_then v s rest)) ((grown p r.0 n).by v.kind sh h.1.by)
-     ∙ ap (λ o. o >>= λ rest. Some (field_then v sh rest)) (fields_grow (shape_within p r.0) (shape_within p deep) (grown_left p r.0 n) vs fs r.1)
-     ∙ ap (λ x. Some (field_then x sh fs)) (sym h.0))
+    let deep = r.0 + n in (
+      deep,
+      ap (λ o. o >>= λ s. fields_by (shape_within p deep) vs >>= λ rest. Some (field_then v s rest)) ((grown p r.0 n).by v.kind sh h.1.by)
+          ∙ ap (λ o. o >>= λ rest. Some (field_then v sh rest)) (fields_grow (shape_within p r.0) (shape_within p deep) (grown_left p r.0 n) vs fs r.1)
+          ∙ ap (λ x. Some (field_then x sh fs)) (sym h.0),
+    )
 
 -- at one level
 opened : (p : Program) (n : ℕ) (t : StType) (o : StType-F StType) (sh : Shape) → out-StType t ≡ o → shape_by p (shape_within p n) o ≡ Some sh → Unfolds p t sh
@@ -106,15 +106,15 @@ structure_unfolds p n x vs fs e k h =
     let d = each_deep p vs fs h in
     opened p d.0 (type.Structure n) (StType-F.Structure n) (Structure x.name fs) (type.outs-Structure n)
     (ap (λ o. o >>= λ y. fields_of y.body >>= λ ws. fields_by (shape_within p d.0) ws >>= λ gs. Some (Structure y.name gs)) e
-     ∙ ap (λ o. o >>= λ ws. fields_by (shape_within p d.0) ws >>= λ gs. Some (Structure x.name gs)) k
-     ∙ ap (λ o. o >>= λ gs. Some (Structure x.name gs)) d.1)
+    ∙ ap (λ o. o >>= λ ws. fields_by (shape_within p d.0) ws >>= λ gs. Some (Structure x.name gs)) k
+    ∙ ap (λ o. o >>= λ gs. Some (Structure x.name gs)) d.1)
 
 instance_unfolds : (p : Program) (c : ℕ) (k : Class) (fs : Fields) → class_at p c ≡ Some k → EachUnfolds p (class_variables p c) fs → Unfolds p (type.Instance c) (Instance c k.name fs)
 instance_unfolds p c k fs e h =
     let d = each_deep p (class_variables p c) fs h in
     opened p d.0 (type.Instance c) (StType-F.Instance c) (Instance c k.name fs) (type.outs-Instance c)
     (ap (λ o. o >>= λ y. fields_by (shape_within p d.0) (class_variables p c) >>= λ gs. Some (Instance c y.name gs)) e
-     ∙ ap (λ o. o >>= λ gs. Some (Instance c k.name gs)) d.1)
+    ∙ ap (λ o. o >>= λ gs. Some (Instance c k.name gs)) d.1)
 
 pub shape_laws : ShapeLaws
 shape_laws = record {

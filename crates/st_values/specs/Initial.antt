@@ -4,15 +4,13 @@ use Rattle.plc_text.specs.Words.{same}
 use Rattle.st_tree.specs.declared.program.Note.{Note}
 use Rattle.st_tree.specs.declared.program.Target.{Target}
 use Rattle.st_tree.specs.declared.program.Target.TheVariants as target
-use Rattle.st_tree.specs.declared.path.Step.TheVariants as step
 use Rattle.st_tree.specs.Expression.{Expression, Int, Typed, Time, True, False, Null, Place, Call, Enumerator, Ref, Now, Paren, Not, Negate, Chain}
 use Rattle.st_tree.specs.Initial as given
 use Rattle.st_tree.specs.Initial.{Initial, Parts, FieldInits}
 use Rattle.st_tree.specs.Number.{number_of}
-use Rattle.st_types.specs.declared.st_type.StType.{StType}
 use Rattle.st_values.specs.Rules.{◌or_else◌}
 use Rattle.st_values.specs.Program.{Variable, Region, Program}
-use Rattle.st_values.specs.Value.{Path, Step, Value, number, reference, array, structure, instance, Values, no_values, value_then, Members, no_members, member_then, Store}
+use Rattle.st_values.specs.Value.{Value, number, reference, array, structure, instance, Values, no_values, value_then, Members, no_members, member_then, Store}
 use Rattle.st_values.specs.Shape.{Shape, Elementary, Enumeration, Reference, Interface, Array, Structure, Instance, Fields, no_fields, field_then, shape_of}
 
 -- the note at the head of an expression

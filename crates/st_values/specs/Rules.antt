@@ -1,5 +1,5 @@
 -- STAND-IN for st_rules (Named, Chains, Classes, Interfaces, Modifiers) until it is landed: the same words, so that only imports change.
-use Rattle.std.specs.Prelude.{◌≡◌, ℕ, zero, suc, nat_eq, Bool, true, false, ◌||◌, if◌then◌else◌, List, [], ◌∷◌, map, length, Option, Some, None, option_map, option_and_then, slice_get, filter_map, unwrap_or}
+use Rattle.std.specs.Prelude.{ℕ, zero, suc, nat_eq, Bool, true, false, ◌||◌, if◌then◌else◌, List, [], ◌∷◌, map, length, Option, Some, None, option_map, option_and_then, slice_get, filter_map, unwrap_or}
 use Rattle.std.specs.List.{list_any}
 use Rattle.plc_text.specs.Words.{same}
 use Rattle.st_types.specs.declared.st_type.StType.{StType}

@@ -1,5 +1,5 @@
 -- Types of a program unfolded by names into plain trees.
-use Rattle.std.specs.Prelude.{ℕ, zero, suc, ℤ, pos, negsuc, ◌-ℤ◌, Bool, true, false, ◌&&◌, ◌||◌, nat_eq, nat_lt, if◌then◌else◌, List, [], ◌∷◌, length, Option, Some, None, option_map, slice_get}
+use Rattle.std.specs.Prelude.{ℕ, zero, suc, ℤ, pos, negsuc, ◌-ℤ◌, Bool, true, false, ◌&&◌, ◌||◌, nat_eq, nat_lt, if◌then◌else◌, List, [], ◌∷◌, Option, Some, None, option_map, slice_get}
 use Rattle.std.specs.Ordering.{int_eq}
 use Rattle.plc_text.specs.Words.{same}
 use Rattle.st_types.specs.declared.elem.Elem.{Elem}
@@ -9,7 +9,7 @@ use Rattle.st_types.specs.declared.st_type.StType.TheOpen.{StType-F}
 use Rattle.st_tree.specs.declared.path.Path.{Path}
 use Rattle.st_tree.specs.declared.path.Step.{Step}
 use Rattle.st_tree.specs.declared.path.Step.TheVariants as step
-use Rattle.st_values.specs.Program.{Variable, Class, TypeBody, an_enumeration, a_structure, TypeEntry, Region, Program, class_at, class_variables}
+use Rattle.st_values.specs.Program.{Variable, TypeBody, an_enumeration, a_structure, Program, class_at, class_variables}
 use Rattle.st_values.specs.Value.{◌>>=◌, place_of_index}
 
 mutual

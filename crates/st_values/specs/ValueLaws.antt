@@ -1,5 +1,5 @@
 -- The laws of reading and replacing.
-use Rattle.std.specs.Prelude.{◌≡◌, ◌≢◌, ℕ, List, [], ◌∷◌, Option, Some, ◌⊎◌}
+use Rattle.std.specs.Prelude.{◌≡◌, ◌≢◌, List, ◌∷◌, Some, ◌⊎◌}
 use Rattle.st_values.specs.Value.{Path, Step, Value, Store, names_of, value_at, value_with, at, put}
 
 -- two ways part at some step

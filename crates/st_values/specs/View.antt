@@ -35,7 +35,7 @@ use Rattle.st_tree.specs.Initial.{Initial, initial_of}
 use Rattle.st_tree.specs.Reads.{no_marks}
 use Rattle.st_tree.specs.Statement.{Statements, statements_of}
 use Rattle.st_values.specs.Rules.{chain, conforms, extends, methods_in, is_constant}
-use Rattle.st_values.specs.Program.{Variable, Recipient, to_local, to_variable, Parameter, Routine, Sort, a_class, a_block, a_program, Class, Signature, Interface, TypeBody, an_alias, an_enumeration, a_structure, TypeEntry, Region, Program}
+use Rattle.st_values.specs.Program.{Variable, to_local, to_variable, Parameter, Routine, Sort, a_class, a_block, a_program, Class, Signature, Interface, TypeBody, an_alias, an_enumeration, a_structure, TypeEntry, Region, Program}
 
 -- ---- types and variables
 

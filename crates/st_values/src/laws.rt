@@ -7,11 +7,9 @@ ghost use Rattle.st_values.specs.ShapeLaws.{ShapeLaws};
 pub fn value_laws()
     ensures values { ValueLaws }
     ensures stores { StoreLaws }
-{
-}
+{}
 
 /// A type has one shape, which is made of those of its parts.
 pub fn shape_laws()
     ensures { ShapeLaws }
-{
-}
+{}

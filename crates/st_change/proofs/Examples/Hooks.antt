@@ -1,7 +1,7 @@
 -- Hooks in order. Items lie in an array in a cell; each hook writes one digit more to g. The first load writes 1, 1 for the inits of the
 -- items and 8 for that of the cell; the change 5 and 2, 2 for the exits, 3, 3 and 6 for the inits, 4, 4 and 7 for the reinits. In between a
 -- reference to the second item is taken, which goes on with it.
-use Rattle.std.proofs.Common.{◌≡◌, ℕ, ℤ, pos, Bool, true, false, List, [], ◌∷◌, ◌++◌, Option, Some, None, refl}
+use Rattle.std.proofs.Common.{◌≡◌, ℕ, ℤ, pos, List, [], ◌∷◌, ◌++◌, Option, Some, None, refl}
 use Rattle.std.specs.Prelude.{codes}
 use Rattle.plc_num.specs.Wrapping.{wrapped}
 use Rattle.cycle_journal.specs.declared.entry.CycleReply.TheVariants as reply
@@ -15,8 +15,8 @@ use Rattle.st_tree.specs.declared.program.Note.{Note}
 use Rattle.st_tree.specs.declared.program.Target.TheVariants as target
 use Rattle.st_tree.specs.Expression.{Null}
 use Rattle.st_tree.specs.Statement.{Statement}
-use Rattle.st_values.specs.Program.{Variable, Routine, Class, Program, class_number, class_variables, conforms, lookup}
-use Rattle.st_values.specs.Value.{Path, Value, number, reference, array, instance, no_values, value_then, Members, no_members, member_then, Store}
+use Rattle.st_values.specs.Program.{Variable, Routine, Program, class_number, class_variables, conforms, lookup}
+use Rattle.st_values.specs.Value.{Path, Value, number, reference, array, instance, no_values, value_then, no_members, member_then, Store}
 use Rattle.st_meaning.specs.Cycle.{cycle}
 use Rattle.st_meaning.proofs.Builder.{bool, int, dint, ulint, typed, lit, var, op, ref, dot, index, caret, send, set, when, variable, own, located, method, class, program_class, global, instance_of, task}
 use Rattle.st_change.specs.From.{class_pairs, structure_pairs, region_pairs}
@@ -50,8 +50,8 @@ abbrev body : ℕ → List (Statement Note)
 body k =
     when 1 (op bool (var (type.Reference 0) (target.Region 1)) operator.Equal (Null (typed (type.Reference 0))))
     (set 1 (type.Reference 0) (target.Region 1)
-     (ref (type.Reference 0) (type.Instance 1) (target.Variable 0) (dot pair (target.Variable k) (codes "ITEMS") ∷ index (type.Instance 0) (lit dint (codes "1")) ∷ []))
-     ∷ [])
+    (ref (type.Reference 0) (type.Instance 1) (target.Variable 0) (dot pair (target.Variable k) (codes "ITEMS") ∷ index (type.Instance 0) (lit dint (codes "1")) ∷ []))
+    ∷ [])
     []
     ∷ set 1 dint (target.Variable 1) (send dint (type.Reference 0) (target.Region 1) (caret (type.Instance 0) ∷ dot dint (target.Method 3) (codes "HIT") ∷ []) [])
     ∷ set 1 ulint (target.Variable 2) (var ulint (target.Region 0))
@@ -96,7 +96,7 @@ abbrev store : ℤ → Option Path → Value → ℤ → ℤ → Store
 store g r cell x y =
     member_then (codes "G") (number g)
     (member_then (codes "R") (reference r)
-     (member_then (codes "P1") (instance (codes "P") (member_then (codes "C1") cell (member_then (codes "X") (number x) (member_then (codes "Y") (number y) no_members)))) no_members))
+    (member_then (codes "P1") (instance (codes "P") (member_then (codes "C1") cell (member_then (codes "X") (number x) (member_then (codes "Y") (number y) no_members)))) no_members))
 
 loads : start old ≡ ran (store (pos 118) None (old_cell (pos 0) (pos 0)) (pos 0) (pos 0)) 99991
 unfolding wrapped class_number class_variables conforms lookup class_pairs structure_pairs region_pairs kept out-StType denote.Hole.Carrier.out denote.Hole.Carrier.shown denote.Hole.Carrier.hidden hidden-the_row-StType-0 shown-the_row-StType-0

@@ -1,5 +1,5 @@
 -- Types that changed: an enumeration with one value more and a number of another type start anew; a number of the same type goes on.
-use Rattle.std.proofs.Common.{◌≡◌, ℕ, ℤ, pos, List, [], ◌∷◌, ◌++◌, Option, Some, None, refl}
+use Rattle.std.proofs.Common.{◌≡◌, ℕ, ℤ, pos, List, [], ◌∷◌, refl}
 use Rattle.std.specs.Prelude.{codes}
 use Rattle.plc_num.specs.Wrapping.{wrapped}
 use Rattle.st_types.specs.declared.st_type.StType.{StType, out-StType}

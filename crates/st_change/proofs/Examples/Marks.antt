@@ -1,6 +1,6 @@
 -- Marks. `speed` goes on as `velocity`, which is renamed from it; `n`, which is not to be copied, starts anew. A global that is initialised at
 -- each change starts anew though its region is kept, and the one beside it goes on.
-use Rattle.std.proofs.Common.{◌≡◌, ℕ, ℤ, pos, Bool, true, false, List, [], ◌∷◌, Option, Some, None, refl}
+use Rattle.std.proofs.Common.{◌≡◌, ℤ, pos, true, false, List, [], ◌∷◌, Some, None, refl}
 use Rattle.std.specs.Prelude.{codes}
 use Rattle.plc_num.specs.Wrapping.{wrapped}
 use Rattle.st_types.specs.declared.st_type.StType.{out-StType}

@@ -1,14 +1,14 @@
 -- An array of ten instances becomes one of five. A reference to the eighth is lost; the fourth goes on with what it held.
-use Rattle.std.proofs.Common.{◌≡◌, ℕ, ℤ, pos, List, [], ◌∷◌, Option, Some, None, refl}
+use Rattle.std.proofs.Common.{◌≡◌, ℤ, pos, [], ◌∷◌, Option, Some, None, refl}
 use Rattle.std.specs.Prelude.{codes}
 use Rattle.plc_num.specs.Wrapping.{wrapped}
-use Rattle.st_types.specs.declared.st_type.StType.{StType, out-StType}
+use Rattle.st_types.specs.declared.st_type.StType.{out-StType}
 use Rattle.st_types.specs.declared.st_type.StType.TheBlock.{hidden-the_row-StType-0, shown-the_row-StType-0}
 use Rattle.st_types.specs.declared.st_type.StType.TheVariants as type
 use Rattle.st_tree.specs.declared.path.Step.TheVariants as step
 use Rattle.st_values.specs.Program.{Program, class_number, class_variables, conforms, lookup}
 use Rattle.st_values.specs.Value.{Path, Value, number, reference, array, instance, Values, no_values, value_then, no_members, member_then, Store}
-use Rattle.st_meaning.proofs.Builder.{dint, own, class, global, task}
+use Rattle.st_meaning.proofs.Builder.{dint, own, class, global}
 use Rattle.st_change.specs.From.{class_pairs, structure_pairs, region_pairs}
 use Rattle.st_change.specs.Counterpart.{kept}
 use Rattle.st_change.specs.Hook.{ran}

@@ -1,5 +1,5 @@
 -- A first load that a hook stops: FB_init of K divides by a variable that is 0. The refusal names K and the line of the statement.
-use Rattle.std.proofs.Common.{◌≡◌, ℕ, ℤ, pos, List, [], ◌∷◌, Option, Some, None, refl}
+use Rattle.std.proofs.Common.{◌≡◌, [], ◌∷◌, Some, None, refl}
 use Rattle.std.specs.Prelude.{codes}
 use Rattle.plc_num.specs.Wrapping.{wrapped}
 use Rattle.plc_text.specs.declared.fault.FaultKind.TheVariants as fault
@@ -19,8 +19,8 @@ sample = record {
   classes =
       class (codes "K") 0 [] [] (own (codes "Z") dint ∷ [])
       (method (codes "FB_INIT") 1 (Some 0) bool (variable sort.Input (codes "BINITRETAINS") bool None ∷ variable sort.Input (codes "BINCOPYCODE") bool None ∷ [])
-       (set 1 dint (target.Variable 0) (op dint (lit dint (codes "1")) operator.Divide (var dint (target.Variable 0))) ∷ [])
-       ∷ [])
+      (set 1 dint (target.Variable 0) (op dint (lit dint (codes "1")) operator.Divide (var dint (target.Variable 0))) ∷ [])
+      ∷ [])
       ∷ program_class (codes "P") 1 (own (codes "K1") (type.Instance 0) ∷ []) []
       ∷ [];
   interfaces = [];

@@ -1,6 +1,6 @@
 -- A body of a derived block: it has the in-out and the temporary variable of its base, and SUPER() runs the base's body with the same in-out
 -- and fresh temporary variables. Base: `io := io + t; t := 100;` with `VAR_TEMP t : INT := 3;`. Derived: `t := t + 1; SUPER(); io := io + t;`.
-use Rattle.std.proofs.Common.{◌≡◌, ℕ, ℤ, pos, List, [], ◌∷◌, Option, Some, None, refl}
+use Rattle.std.proofs.Common.{◌≡◌, ℕ, ℤ, pos, List, [], ◌∷◌, Some, None, refl}
 use Rattle.std.specs.Prelude.{codes}
 use Rattle.plc_num.specs.Wrapping.{wrapped}
 use Rattle.cycle_journal.specs.declared.entry.CycleReply.TheVariants as reply
@@ -14,8 +14,8 @@ use Rattle.st_tree.specs.declared.program.Target.{Target}
 use Rattle.st_tree.specs.declared.program.Target.TheVariants as target
 use Rattle.st_tree.specs.Expression.{no_selectors, arguments}
 use Rattle.st_tree.specs.Statement.{Statement, Call, statements}
-use Rattle.st_values.specs.Program.{Variable, to_local, Routine, a_block, Class, Program, class_number, class_variables, conforms, lookup}
-use Rattle.st_values.specs.Value.{number, instance, Members, no_members, member_then, Store}
+use Rattle.st_values.specs.Program.{to_local, a_block, Class, Program, class_number, class_variables, conforms, lookup}
+use Rattle.st_values.specs.Value.{number, instance, no_members, member_then, Store}
 use Rattle.st_meaning.specs.Cycle.{cycle}
 use Rattle.st_meaning.proofs.Builder.{int, note, typed, lit, var, op, arg, set, variable, starting, own, located, program_class, instance_of, task}
 
@@ -50,9 +50,9 @@ sample = record {
       block (codes "A") 0 [] (set 1 int io (op int (var int io) operator.Plus (var int t)) ∷ set 1 int t (lit int (codes "100")) ∷ [])
       ∷ block (codes "K") 1 (0 ∷ [])
       (set 2 int t (op int (var int t) operator.Plus (lit int (codes "1")))
-       ∷ Call 2 (typed int) (root.Super (typed (type.Instance 0))) no_selectors (arguments [])
-       ∷ set 2 int io (op int (var int io) operator.Plus (var int t))
-       ∷ [])
+      ∷ Call 2 (typed int) (root.Super (typed (type.Instance 0))) no_selectors (arguments [])
+      ∷ set 2 int io (op int (var int io) operator.Plus (var int t))
+      ∷ [])
       ∷ program_class (codes "P") 2 (own (codes "K1") (type.Instance 1) ∷ located (codes "X") int (codes "%QW0") ∷ [])
       (Call 4 (typed int) (root.Name (note (type.Instance 1) (target.Variable 0)) (codes "K1")) no_selectors (arguments (arg 0 (var int (target.Variable 1)) ∷ [])) ∷ [])
       ∷ [];

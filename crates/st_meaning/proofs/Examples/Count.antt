@@ -1,5 +1,5 @@
 -- FOR at the end of a type: `FOR u := 250 TO 255 DO n := n + 1; END_FOR` with u at %QB4 and n at %QD0; and a step of 0.
-use Rattle.std.proofs.Common.{◌≡◌, ℕ, ℤ, pos, List, [], ◌∷◌, Option, Some, None, refl}
+use Rattle.std.proofs.Common.{◌≡◌, ℤ, pos, List, [], ◌∷◌, Some, None, refl}
 use Rattle.std.specs.Prelude.{codes}
 use Rattle.plc_num.specs.Wrapping.{wrapped}
 use Rattle.plc_text.specs.declared.fault.FaultKind.TheVariants as fault
@@ -9,7 +9,7 @@ use Rattle.st_tree.specs.declared.program.Note.{Note}
 use Rattle.st_tree.specs.declared.program.Target.TheVariants as target
 use Rattle.st_tree.specs.Statement.{Statement, For, statements}
 use Rattle.st_values.specs.Program.{Program, class_number, class_variables, conforms, lookup}
-use Rattle.st_values.specs.Value.{number, instance, Members, no_members, member_then, Store}
+use Rattle.st_values.specs.Value.{number, instance, no_members, member_then, Store}
 use Rattle.st_meaning.specs.Cycle.{cycle}
 use Rattle.st_meaning.proofs.Builder.{dint, usint, note, lit, var, op, set, located, program_class, instance_of, task}
 

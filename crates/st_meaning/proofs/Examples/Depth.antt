@@ -1,5 +1,5 @@
 -- Calls within calls: `IF n > 1 THEN m := THIS.m(n - 1) + 1; ELSE m := 1; END_IF` on line 3, called with the input: 64 are allowed.
-use Rattle.std.proofs.Common.{◌≡◌, ℕ, ℤ, pos, List, [], ◌∷◌, Option, Some, None, refl}
+use Rattle.std.proofs.Common.{◌≡◌, ℤ, pos, [], ◌∷◌, Some, None, refl}
 use Rattle.std.specs.Prelude.{codes}
 use Rattle.plc_num.specs.Wrapping.{wrapped}
 use Rattle.plc_text.specs.declared.fault.FaultKind.TheVariants as fault
@@ -20,15 +20,15 @@ sample = record {
   classes =
       class (codes "F") 0 [] [] []
       (method (codes "M") 2 (Some 0) dint (variable sort.Input (codes "N") dint None ∷ [])
-       (when 3 (op bool (var dint (target.Local 1)) operator.Greater (lit dint (codes "1")))
-        (set 3 dint (target.Local 0)
-         (op dint
-          (send_this dint (type.Instance 0) (dot dint (target.Method 0) (codes "M") ∷ []) (Positional (op dint (var dint (target.Local 1)) operator.Minus (lit dint (codes "1"))) ∷ []))
-          operator.Plus (lit dint (codes "1")))
-         ∷ [])
-        (set 3 dint (target.Local 0) (lit dint (codes "1")) ∷ [])
-        ∷ [])
-       ∷ [])
+      (when 3 (op bool (var dint (target.Local 1)) operator.Greater (lit dint (codes "1")))
+      (set 3 dint (target.Local 0)
+      (op dint
+      (send_this dint (type.Instance 0) (dot dint (target.Method 0) (codes "M") ∷ []) (Positional (op dint (var dint (target.Local 1)) operator.Minus (lit dint (codes "1"))) ∷ []))
+      operator.Plus (lit dint (codes "1")))
+      ∷ [])
+      (set 3 dint (target.Local 0) (lit dint (codes "1")) ∷ [])
+      ∷ [])
+      ∷ [])
       ∷ program_class (codes "P") 1 (own (codes "F1") (type.Instance 0) ∷ located (codes "D") dint (codes "%ID0") ∷ located (codes "X") dint (codes "%QD0") ∷ [])
       (set 5 dint (target.Variable 2) (send dint (type.Instance 0) (target.Variable 0) (dot dint (target.Method 0) (codes "M") ∷ []) (Positional (var dint (target.Variable 1)) ∷ [])) ∷ [])
       ∷ [];

@@ -13,7 +13,7 @@ use Rattle.st_tree.specs.declared.program.Target.TheVariants as target
 use Rattle.st_tree.specs.Expression.{Expression}
 use Rattle.st_tree.specs.Statement.{Statement}
 use Rattle.st_values.specs.Program.{Program, class_number, class_variables, conforms, lookup}
-use Rattle.st_values.specs.Value.{Path, Value, number, reference, array, instance, Values, no_values, value_then, Members, no_members, member_then, Store}
+use Rattle.st_values.specs.Value.{Path, number, reference, array, instance, no_values, value_then, no_members, member_then, Store}
 use Rattle.st_meaning.specs.Cycle.{cycle}
 use Rattle.st_meaning.proofs.Builder.{dint, int, lit, var, op, ref, dot, index, caret, send, send_super, set, set_at, attempt, own, located, method, class, program_class, instance_of, task}
 
@@ -42,12 +42,12 @@ sample body = record {
       class (codes "CA") 0 [] (0 ∷ []) [] (method (codes "V") 2 (Some 0) int [] (set 2 int (target.Local 0) (lit int (codes "1")) ∷ []) ∷ [])
       ∷ class (codes "CB") 1 (0 ∷ []) (0 ∷ []) []
       (method (codes "V") 3 (Some 1) int []
-       (set 3 int (target.Local 0) (op int (send_super int (type.Instance 0) (dot int (target.Method 0) (codes "V") ∷ []) []) operator.Plus (lit int (codes "10"))) ∷ [])
-       ∷ [])
+      (set 3 int (target.Local 0) (op int (send_super int (type.Instance 0) (dot int (target.Method 0) (codes "V") ∷ []) []) operator.Plus (lit int (codes "10"))) ∷ [])
+      ∷ [])
       ∷ class (codes "CS") 2 [] [] [] []
       ∷ program_class (codes "P") 3
       (own (codes "B1") (type.Instance 1) ∷ own (codes "S1") (type.Instance 2) ∷ own (codes "R") (type.Reference 0) ∷ own (codes "T") drives
-       ∷ located (codes "X") int (codes "%QW0") ∷ located (codes "N") int (codes "%QW1") ∷ [])
+      ∷ located (codes "X") int (codes "%QW0") ∷ located (codes "N") int (codes "%QW1") ∷ [])
       body
       ∷ [];
   interfaces = record { name = codes "IV"; methods = record { name = codes "V"; parameters = [] } ∷ [] } ∷ [];
@@ -60,11 +60,11 @@ abbrev store : Option Path → Option Path → Option Path → ℤ → Store
 store r t1 t2 x =
     member_then (codes "P1")
     (instance (codes "P")
-     (member_then (codes "B1") (instance (codes "CB") no_members)
-      (member_then (codes "S1") (instance (codes "CS") no_members)
-       (member_then (codes "R") (reference r)
-        (member_then (codes "T") (array (pos 1) (value_then (reference t1) (value_then (reference t2) no_values)))
-         (member_then (codes "X") (number x) (member_then (codes "N") (number (pos 0)) no_members)))))))
+    (member_then (codes "B1") (instance (codes "CB") no_members)
+    (member_then (codes "S1") (instance (codes "CS") no_members)
+    (member_then (codes "R") (reference r)
+    (member_then (codes "T") (array (pos 1) (value_then (reference t1) (value_then (reference t2) no_values)))
+    (member_then (codes "X") (number x) (member_then (codes "N") (number (pos 0)) no_members)))))))
     no_members
 
 abbrev b1 : Path

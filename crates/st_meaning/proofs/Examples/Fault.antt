@@ -1,5 +1,5 @@
 -- A fault undoes its cycle: `x := x + 1;` on line 2 and `x := x / d;` on line 3, with x at %QD0 and d at %ID0.
-use Rattle.std.proofs.Common.{◌≡◌, ℕ, ℤ, pos, List, [], ◌∷◌, Option, Some, None, refl}
+use Rattle.std.proofs.Common.{◌≡◌, ℤ, pos, [], ◌∷◌, refl}
 use Rattle.std.specs.Prelude.{codes}
 use Rattle.plc_num.specs.Wrapping.{wrapped}
 use Rattle.plc_text.specs.declared.fault.FaultKind.TheVariants as fault
@@ -7,7 +7,7 @@ use Rattle.cycle_journal.specs.declared.entry.CycleReply.TheVariants as reply
 use Rattle.st_tree.specs.declared.expression.Operator.TheVariants as operator
 use Rattle.st_tree.specs.declared.program.Target.TheVariants as target
 use Rattle.st_values.specs.Program.{Program, class_number, class_variables, conforms, lookup}
-use Rattle.st_values.specs.Value.{number, instance, Members, no_members, member_then, Store}
+use Rattle.st_values.specs.Value.{number, instance, no_members, member_then, Store}
 use Rattle.st_meaning.specs.Cycle.{cycle}
 use Rattle.st_meaning.proofs.Builder.{dint, lit, var, op, set, located, program_class, instance_of, task}
 
@@ -17,8 +17,8 @@ sample = record {
   classes =
       program_class (codes "P") 0 (located (codes "X") dint (codes "%QD0") ∷ located (codes "D") dint (codes "%ID0") ∷ [])
       (set 2 dint (target.Variable 0) (op dint (var dint (target.Variable 0)) operator.Plus (lit dint (codes "1")))
-       ∷ set 3 dint (target.Variable 0) (op dint (var dint (target.Variable 0)) operator.Divide (var dint (target.Variable 1)))
-       ∷ [])
+      ∷ set 3 dint (target.Variable 0) (op dint (var dint (target.Variable 0)) operator.Divide (var dint (target.Variable 1)))
+      ∷ [])
       ∷ [];
   interfaces = [];
   functions = [];

@@ -1,6 +1,6 @@
 -- Outputs are read and written one after another, each place evaluated then: `F(q => i, r => a[i]);` where F leaves 1 in q and 7 in r.
 -- Behind it CASE with a range, and REPEAT with CONTINUE.
-use Rattle.std.proofs.Common.{◌≡◌, ℕ, ℤ, pos, List, [], ◌∷◌, Option, Some, None, refl}
+use Rattle.std.proofs.Common.{◌≡◌, ℕ, ℤ, pos, List, [], ◌∷◌, Some, None, refl}
 use Rattle.std.specs.Prelude.{codes}
 use Rattle.plc_num.specs.Wrapping.{wrapped}
 use Rattle.cycle_journal.specs.declared.entry.CycleReply.TheVariants as reply
@@ -16,10 +16,10 @@ use Rattle.st_tree.specs.declared.statement.LabelEnd.{LabelEnd}
 use Rattle.st_tree.specs.declared.statement.LabelEnd.TheVariants as label
 use Rattle.st_tree.specs.Expression.{Argument, Output, no_selectors, arguments, selectors}
 use Rattle.st_tree.specs.Statement.{Statement, Call, Case, Repeat, Continue, If, branch_then, no_branches, Nothing, statements, cases}
-use Rattle.st_values.specs.Program.{Variable, to_local, Routine, Program, class_number, class_variables, conforms, lookup}
-use Rattle.st_values.specs.Value.{Value, number, array, instance, no_values, value_then, no_members, member_then, Store}
+use Rattle.st_values.specs.Program.{to_local, Routine, Program, class_number, class_variables, conforms, lookup}
+use Rattle.st_values.specs.Value.{number, array, instance, no_values, value_then, no_members, member_then, Store}
 use Rattle.st_meaning.specs.Cycle.{cycle}
-use Rattle.st_meaning.proofs.Builder.{bool, int, note, typed, lit, var, at, op, out, index, set, variable, own, located, program_class, instance_of, task}
+use Rattle.st_meaning.proofs.Builder.{bool, int, note, typed, lit, var, op, out, index, set, variable, own, located, program_class, instance_of, task}
 
 abbrev row : StType
 row = type.Array (pos 0) (pos 1) int
@@ -83,15 +83,15 @@ abbrev repeats : Statement Note
 repeats =
     Repeat 2
     (statements
-     (set 3 int i (op int (var int i) operator.Plus (lit int (codes "1")))
-      ∷ If 4 (branch_then (op bool (var int i) operator.Less (lit int (codes "3"))) (statements (Continue 4 ∷ [])) no_branches) Nothing
-      ∷ Case 5 (var int i)
-      (cases
-       ((record { first = ending (pos 1); last = None } ∷ record { first = ending (pos 2); last = None } ∷ [], statements [])
-        ∷ (record { first = ending (pos 3); last = Some (ending (pos 5)) } ∷ [], statements (set 6 int x (op int (var int x) operator.Plus (var int i)) ∷ []))
-        ∷ []))
-      Nothing
-      ∷ []))
+    (set 3 int i (op int (var int i) operator.Plus (lit int (codes "1")))
+    ∷ If 4 (branch_then (op bool (var int i) operator.Less (lit int (codes "3"))) (statements (Continue 4 ∷ [])) no_branches) Nothing
+    ∷ Case 5 (var int i)
+    (cases
+    ((record { first = ending (pos 1); last = None } ∷ record { first = ending (pos 2); last = None } ∷ [], statements [])
+    ∷ (record { first = ending (pos 3); last = Some (ending (pos 5)) } ∷ [], statements (set 6 int x (op int (var int x) operator.Plus (var int i)) ∷ []))
+    ∷ []))
+    Nothing
+    ∷ []))
     (op bool (var int i) operator.Equal (lit int (codes "6")))
 
 -- 3 + 4 + 5; ticks: 1 for REPEAT; 2 turns of 3 statements and a test, 3 turns of 4 and a test, a last one of 3 and a test

@@ -1,0 +1,14 @@
+//! Laws of changes.
+
+ghost use Rattle.st_change.specs.Laws.{PathLaws};
+ghost use Rattle.st_change.specs.CarryLaws.{CarryLaws};
+
+/// Paths before and after a change are each other's inverse, and counterparts name each other.
+pub fn path_laws()
+    ensures { PathLaws }
+{}
+
+/// What a new place gets fits it, and a store into which regions are carried stays good.
+pub fn carry_laws()
+    ensures { CarryLaws }
+{}
