@@ -1,10 +1,10 @@
 -- Texts of bytes above a number: fields are of bytes above the space (32), and lines of bytes above LF.
 use Rattle.std.proofs.Common.{◌≡◌, ◌⊎◌, inl, inr, ⊎_elim, ℕ, zero, suc, ◌+◌, ◌%◌, ◌/◌, ◌<◌, ◌≤◌, Bool, true, false, ◌&&◌, ◌||◌, List, [], ◌∷◌, ◌++◌, refl, sym, subst, arith}
-use Rattle.std.specs.Prelude.{codes, nat_lt, nat_le, nat_eq, cond, not}
+use Rattle.std.specs.Prelude.{codes, nat_lt, nat_eq, cond, not}
 use Rattle.std.specs.Fmt.{decimal, digits, digits_onto, digit_glyph}
 use Rattle.std.specs.List.{list_all, AllByRecursion}
 use Rattle.std.specs.Str.{bytes_eq}
-use Rattle.std.proofs.lemmas.Bool.{and_parts, false≢true, leb-true, ltb-true, lt-ltb}
+use Rattle.std.proofs.lemmas.Bool.{and_parts, false≢true, ltb-true, lt-ltb}
 use Rattle.std.proofs.lemmas.Bool.Decides.{nat_tests}
 use Rattle.std.proofs.lemmas.List.Sums.{list_all-from_AllPass}
 use Rattle.std.proofs.lemmas.Slice.Eq.{bytes_eq-Decides}

@@ -1,5 +1,5 @@
 -- Bytes that are put into empty room stand in padded room.
-use Rattle.std.proofs.Common.{◌≡◌, ℕ, ◌-◌, ◌≤◌, List, ◌++◌, length, drop, refl, ap, ◌∙◌, arith, length-append, length-drop}
+use Rattle.std.proofs.Common.{◌≡◌, ℕ, ◌-◌, ◌≤◌, List, ◌++◌, length, drop, ◌∙◌, arith, length-append, length-drop}
 use Rattle.std.specs.Prelude.{replicate}
 use Rattle.std.proofs.lemmas.List.{length-replicate, drop-replicate, drop_at}
 use Rattle.cycle_journal.specs.Outputs.{IsPadded}

@@ -1,9 +1,8 @@
 -- The lines of a scenario lead a reader to what the scenario holds.
-use Rattle.std.proofs.Common.{◌≡◌, ◌≢◌, ⊎_elim, ℕ, zero, suc, ◌+◌, ◌<◌, ◌≤◌, Bool, true, false, ◌&&◌, List, [], ◌∷◌, ◌++◌, length, map, Option, Some, None, refl, sym, ap, ◌∙◌, subst, arith, append_assoc, length-append}
-use Rattle.std.specs.Prelude.{codes, nat_lt, not, is_some, slice_get, replicate, if◌then◌else◌}
+use Rattle.std.proofs.Common.{◌≡◌, ℕ, zero, suc, ◌+◌, ◌<◌, ◌≤◌, true, false, ◌&&◌, List, [], ◌∷◌, ◌++◌, length, map, Option, Some, refl, sym, ap, ◌∙◌, subst, arith, append_assoc, length-append}
+use Rattle.std.specs.Prelude.{codes, nat_lt, not, is_some, replicate}
 use Rattle.std.specs.List.{AllByRecursion, flat_map}
-use Rattle.std.specs.Map.{keys_of}
-use Rattle.std.proofs.lemmas.List.{append-nil, length-map, map-append}
+use Rattle.std.proofs.lemmas.List.{append-nil}
 use Rattle.std.proofs.lemmas.Bool.Decides.{nat_tests}
 use Rattle.plc_text.specs.Lines.{ended, text_of}
 use Rattle.plc_text.specs.Text.{folded}
@@ -13,12 +12,12 @@ use Rattle.cycle_journal.specs.declared.play.Play.{Play}
 use Rattle.cycle_journal.specs.declared.play.Play.TheVariants.{Cycle, Change, Reset}
 use Rattle.cycle_journal.specs.Interleaving.{Phase}
 use Rattle.scenario.specs.Scenario.{Contents}
-use Rattle.scenario.specs.Reading.{IsSourceLine, Block, lines_of_block, source_of, IsBlock, AreSources, IsPlayLine, ArePlayLines, phases_from, tasks_of_play, ArePlayed, IsScenario}
+use Rattle.scenario.specs.Reading.{IsSourceLine, Block, lines_of_block, source_of, IsBlock, IsPlayLine, ArePlayLines, phases_from, tasks_of_play, ArePlayed, IsScenario}
 use Rattle.scenario.specs.declared.played.Played.{Played}
 use Rattle.scenario.specs.declared.reader.Reader.{Reader}
-use Rattle.scenario.specs.Private.PlayLine.{◌>>=◌, place_of, play_in}
+use Rattle.scenario.specs.Private.PlayLine.{◌>>=◌, place_of}
 use Rattle.scenario.specs.Private.Played.{nothing_played, with_phase, with_play}
-use Rattle.scenario.specs.Private.Reader.{start, opened, played_on, step, run, outcome}
+use Rattle.scenario.specs.Private.Reader.{start, step, run, outcome}
 use Rattle.scenario.proofs.PlaceLaws.{is_free}
 use Rattle.scenario.proofs.PlayLineLaws.{play_in-is}
 use Rattle.scenario.proofs.StateLaws.{Lines, Sources, in_program, in_source, in_plays, at_end, one_more, more_plays, with_play-is, AllowsAll, allows_first, allows_more, before_changes, before_tasks, plays-more_plays, next-more_plays, phases-more_plays, fold-count_change}

@@ -10,7 +10,7 @@ use Rattle.plc_text.specs.Lines.{ended, FirstBad}
 use Rattle.plc_text.specs.Text.{folded}
 use Rattle.plc_text.specs.Words.{same, is_word}
 use Rattle.st_names.specs.Names.{HasName}
-use Rattle.plc_text.proofs.LineLaws.{NoNext, first_bad}
+use Rattle.plc_text.proofs.LineLaws.{first_bad}
 use Rattle.scenario.specs.Scenario.{Contents}
 use Rattle.scenario.specs.Reading.{scenario_lines, IsScenario, CanBegin, NoScenario}
 use Rattle.scenario.specs.declared.reader.Part.{Part}

@@ -1,5 +1,5 @@
 -- Lines that lead a reader to an end are those of a scenario.
-use Rattle.std.proofs.Common.{◌≡◌, ◌≢◌, ◌⊎◌, inl, inr, ⊎_elim, ℕ, zero, suc, ◌+◌, ◌<◌, ◌≤◌, Bool, true, false, ◌&&◌, List, [], ◌∷◌, ◌++◌, length, map, drop, Option, Some, None, refl, sym, ap, ◌∙◌, subst, arith, append_assoc, length-append}
+use Rattle.std.proofs.Common.{◌≡◌, ◌⊎◌, inl, inr, ⊎_elim, ℕ, zero, suc, ◌+◌, ◌<◌, ◌≤◌, Bool, true, false, ◌&&◌, List, [], ◌∷◌, ◌++◌, length, map, drop, Option, Some, None, refl, sym, ap, ◌∙◌, subst, arith, append_assoc, length-append}
 use Rattle.std.specs.Prelude.{codes, nat_eq, nat_lt, not, is_some, count_by, replicate, IsUtf8, if◌then◌else◌}
 use Rattle.std.specs.List.{AllByRecursion, flat_map, starts_with}
 use Rattle.std.proofs.lemmas.List.{append-nil}
@@ -11,7 +11,6 @@ use Rattle.plc_text.specs.Text.{folded}
 use Rattle.plc_text.specs.Words.{same, is_word}
 use Rattle.st_names.specs.Names.{IsAt, HasName, AreDistinct}
 use Rattle.cycle_journal.specs.declared.play.Play.{Play}
-use Rattle.cycle_journal.specs.Interleaving.{Phase}
 use Rattle.scenario.specs.Scenario.{Contents}
 use Rattle.scenario.specs.Reading.{IsSourceLine, Block, lines_of_block, source_of, IsBlock, IsPlayLine, ArePlayLines, phases_from, tasks_of, is_change, ArePlayed, AreSources, IsScenario}
 use Rattle.scenario.specs.declared.played.Played.{Played}
@@ -20,7 +19,7 @@ use Rattle.scenario.specs.declared.reader.Part.TheVariants.{Start, Program, Sour
 use Rattle.scenario.specs.declared.reader.Reader.{Reader}
 use Rattle.scenario.specs.Private.PlayLine.{◌>>=◌, place_of, play_in}
 use Rattle.scenario.specs.Private.Played.{nothing_played, with_phase, with_play}
-use Rattle.scenario.specs.Private.Reader.{start, with_source, opened, directed, is_directive, played_on, step, run, outcome}
+use Rattle.scenario.specs.Private.Reader.{start, with_source, directed, is_directive, run, outcome}
 use Rattle.scenario.proofs.PlaceLaws.{free-is}
 use Rattle.scenario.proofs.PlayLineLaws.{bound, chosen, play_in-some}
 use Rattle.scenario.proofs.StateLaws.{Lines, Sources, in_program, in_source, in_plays, at_end, one_more, with_play-some, Within, AllowsAll, allows_more, allows_none, fold-count_change}

@@ -1,5 +1,5 @@
 -- The readers that lines lead to, part by part.
-use Rattle.std.proofs.Common.{◌≡◌, ℕ, ◌+◌, ◌<◌, ◌≤◌, Bool, true, false, ◌&&◌, List, [], ◌∷◌, ◌++◌, length, Option, Some, None, fold, refl, sym, ap, ◌∙◌, subst, arith, append_assoc, length-append}
+use Rattle.std.proofs.Common.{◌≡◌, ℕ, ◌+◌, ◌<◌, ◌≤◌, Bool, true, false, List, [], ◌∷◌, ◌++◌, length, Option, Some, None, fold, refl, sym, ◌∙◌, subst, arith, append_assoc, length-append}
 use Rattle.std.specs.Prelude.{nat_le, nat_lt, count_by, cond, if◌then◌else◌}
 use Rattle.std.specs.List.{flat_map, list_any}
 use Rattle.std.proofs.lemmas.Bool.{leb-true, ltb-true}
@@ -14,7 +14,7 @@ use Rattle.scenario.specs.declared.played.Played.{Played}
 use Rattle.scenario.specs.declared.reader.Part.TheVariants.{Program, Source, Plays, End}
 use Rattle.scenario.specs.declared.reader.Reader.{Reader}
 use Rattle.scenario.specs.Private.PlayLine.{◌>>=◌}
-use Rattle.scenario.specs.Private.Played.{nothing_played, with_change, with_task, counted, with_play}
+use Rattle.scenario.specs.Private.Played.{nothing_played, with_change, counted, with_play}
 use Rattle.scenario.specs.Private.Reader.{step, run}
 
 abbrev pub Lines : Type 0

@@ -77,7 +77,7 @@ fn reads_what_is_there(rt: HostRuntime) -> Result<(), Fail> {
 
 #[test]
 fn tells_the_bad_line(rt: HostRuntime) -> Result<(), Fail> {
-    let table: [(&[u8], u32); 38] = [
+    let table: [(&[u8], u32); 43] = [
         (b"", 1),
         (b"\xef\xbb\xbf", 1),
         (b"\xef\xbb\xbf\xef\xbb\xbf@program\n", 1),
@@ -116,6 +116,11 @@ fn tells_the_bad_line(rt: HostRuntime) -> Result<(), Fail> {
         (b"@program\n@plays\n@end\n\r\n\n@end\n", 6),
         (b"@program\n@plays\n@end\n\xff", 4),
         (b"@program\n@plays\nreset A\n", 4),
+        (b"@program\n@plays\n", 3),
+        (b"@program\n@plays\ncyc", 3),
+        (b"@program\n@plays\ncycle MAIN 0 0\n@end\n", 3),
+        (b"@program\n@plays\nchange NOPE\n@end\n", 3),
+        (b"@program\n@plays\nreset MAIN\nReset MAIN\n@end\n", 4),
     ];
     for (bytes, line) in table {
         assert_eq!(rt; bad_line(rt.alloc(), bytes)?, Some(line), "at {bytes:?}");

@@ -1,7 +1,7 @@
 -- Reading a candidate from a line: what each private function of the reader does. A line is taken only where the candidate
 -- fits and its own text is the line, so what is read here need not be exact; proofs/ has the law that an entry's own line
 -- gives the entry.
-use Rattle.std.specs.Prelude.{◌≡◌, ℕ, ◌/◌, ◌^◌, ◌&&◌, nat_le, nat_lt, find, List, [], ◌∷◌, length, codes, Option, Some, None, Result, Ok, Err, if◌then◌else◌, refl}
+use Rattle.std.specs.Prelude.{◌≡◌, ℕ, ◌/◌, nat_le, find, List, [], ◌∷◌, length, codes, Option, Some, None, Result, Ok, Err, if◌then◌else◌, refl}
 use Rattle.std.specs.Result.{result_ok}
 use Rattle.std.specs.Str.{bytes_eq}
 use Rattle.plc_text.specs.Code.{code_name}

@@ -1,7 +1,6 @@
 -- The play of a line, as it is read.
-use Rattle.std.specs.Prelude.{ℕ, suc, zero, ◌/◌, Bool, ◌&&◌, nat_eq, nat_le, List, [], ◌∷◌, length, drop, codes, Option, Some, None, if◌then◌else◌}
+use Rattle.std.specs.Prelude.{ℕ, suc, ◌&&◌, nat_eq, nat_le, List, [], ◌∷◌, length, drop, codes, Option, Some, None, if◌then◌else◌}
 use Rattle.std.specs.List.{starts_with}
-use Rattle.std.specs.Option.{option_map, option_and_then}
 use Rattle.std.specs.Result.{result_ok}
 use Rattle.hex.specs.Hex.{decode_of}
 use Rattle.plc_text.specs.Fields.{first_field, behind_field}

@@ -1,9 +1,6 @@
-use Rattle.std.proofs.Common.{◌≡◌, List, ℕ, [], ◌∷◌, Option, None, Some, sym, ap, ◌∙◌, ◌++◌, ◌≢◌, subst}
-use Rattle.std.specs.Prelude.{MatchOption}
-use Rattle.std.specs.Option.{unwrap_or}
+use Rattle.std.proofs.Common.{[], ◌∷◌}
 use Rattle.std.proofs.lemmas.Bool.Decides.{Decides-eqb}
 use Rattle.std.proofs.lemmas.Slice.Eq.{strip_suffix_is}
-use Rattle.scenario.specs.Private.Lines.{without_return}
 use Rattle.scenario.proofs.EndLaws.{stripped}
 use Rattle.scenario.proofs.lines.without_return.Goals as goal
 

@@ -1,4 +1,4 @@
-use Rattle.std.proofs.Common.{◌≡◌, length, arith}
+use Rattle.std.proofs.Common.{length, arith}
 use Rattle.std.proofs.lemmas.Grind.{common_steps}
 use Rattle.cycle_journal.proofs.PaddingLaws.{padded}
 use Rattle.cycle_journal.proofs.outputs.Outputs.from_slice.Goals as goal
