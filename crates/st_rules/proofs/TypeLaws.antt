@@ -7,7 +7,7 @@ use Rattle.std.proofs.lemmas.Bool.{eqb-true, eq-eqb}
 use Rattle.plc_text.specs.Words.{same}
 use Rattle.st_types.specs.declared.elem.Elem.{Elem}
 use Rattle.st_types.specs.declared.elem.Elem.TheVariants as kind
-use Rattle.st_types.specs.Kinds.{name}
+use Rattle.st_types.specs.Elem.{name}
 use Rattle.st_types.specs.declared.st_type.StType.{StType, out-StType, roll-StType, out-roll-StType, roll-out-StType}
 use Rattle.st_types.specs.declared.st_type.StType.TheOpen.{StType-F, Elementary, Enumeration, Structure, Array, Instance, Reference, Interface}
 use Rattle.st_types.specs.declared.st_type.StType.TheFolds.{fold-roll-StType, ind-StType, map-StType}

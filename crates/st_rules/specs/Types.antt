@@ -2,7 +2,7 @@
 use Rattle.std.specs.Prelude.{nat_eq, Bool, false, ◌&&◌, ℤ, pos, negsuc}
 use Rattle.plc_text.specs.Words.{same}
 use Rattle.st_types.specs.declared.elem.Elem.{Elem}
-use Rattle.st_types.specs.Kinds.{name}
+use Rattle.st_types.specs.Elem.{name}
 use Rattle.st_types.specs.declared.st_type.StType.{StType, out-StType}
 use Rattle.st_types.specs.declared.st_type.StType.TheOpen.{StType-F, Elementary, Enumeration, Structure, Array, Instance, Reference, Interface}
 use Rattle.st_types.specs.declared.st_type.StType.TheFolds.{fold-StType}
