@@ -84,5 +84,5 @@ one_way (either a b) F (inr p) (inr p') ts ts' r r' fine q h h' f f' = let both 
 one_way (inside k) F p p' ts ts' r r' fine q h h' f f' =
     let whole : p.0 ++ r ≡ p'.0 ++ r' = sym h ∙ q ∙ h' in
     let many : ◌≡◌ {A = Ending} (true, length r) (true, length r') =
-        sym (reads-whole p.0 r k p.1 (closed-is F fine r f)) ∙ ap (s.machine k) whole ∙ reads-whole p'.0 r' k p'.1 (closed-is F fine r' f') in
+    sym (reads-whole p.0 r k p.1 (closed-is F fine r f)) ∙ ap (s.machine k) whole ∙ reads-whole p'.0 r' k p'.1 (closed-is F fine r' f') in
     one-inside k p p' r r' whole (ap (λ v. v.1) many)
