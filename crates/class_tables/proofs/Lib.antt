@@ -10,3 +10,4 @@ pub mod BridgeLaws
 pub mod ConformLaws
 pub mod SettleLaws
 pub mod TableLaws
+pub mod SlotLaws
