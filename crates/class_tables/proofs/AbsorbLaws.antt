@@ -9,8 +9,8 @@ use Rattle.st_rules.specs.Numbered.{passes_if_there}
 use Rattle.st_rules.specs.Chains.{◌or_else◌}
 use Rattle.st_rules.specs.Classes.{method_id}
 use Rattle.st_rules.proofs.Booleans.{cases, none≢some, some-same, true≢false}
-use Rattle.class_tables.specs.declared.rows.ClassRow.{ClassRow}
-use Rattle.class_tables.specs.declared.rows.MethodRow.{MethodRow}
+use Rattle.class_rows.specs.declared.rows.ClassRow.{ClassRow}
+use Rattle.class_rows.specs.declared.rows.MethodRow.{MethodRow}
 use Rattle.class_tables.specs.declared.store.Entry.{Entry}
 use Rattle.class_tables.specs.declared.store.Store.{Store}
 use Rattle.class_tables.specs.declared.absorb.State.{State}

@@ -17,16 +17,18 @@ use Rattle.st_rules.specs.Classes.{methods_in, method_names, method_id, base_of,
 use Rattle.st_rules.proofs.Booleans.{none≢some, some-same, same-tests}
 use Rattle.st_rules.proofs.ClassLaws.{first_place_within, bases_within}
 use Rattle.st_rules.proofs.InterfaceLaws.{named_within}
-use Rattle.class_tables.specs.declared.rows.ClassRow.{ClassRow}
-use Rattle.class_tables.specs.declared.rows.InterfaceRow.{InterfaceRow}
-use Rattle.class_tables.specs.declared.rows.MethodRow.{MethodRow}
-use Rattle.class_tables.specs.declared.rows.UnitRows.{UnitRows}
-use Rattle.class_tables.specs.Slots.{with_new, names_at, names_upward, all_names}
-use Rattle.class_tables.specs.Private.Rows.{class_names, interface_names, method_row, method_rows, class_row, interface_row, AreRows}
+use Rattle.class_rows.specs.declared.rows.ClassRow.{ClassRow}
+use Rattle.class_rows.specs.declared.rows.InterfaceRow.{InterfaceRow}
+use Rattle.class_rows.specs.declared.rows.MethodRow.{MethodRow}
+use Rattle.class_rows.specs.declared.rows.UnitRows.{UnitRows}
+use Rattle.class_rows.specs.UnitNames.{with_new, all_names}
+use Rattle.class_tables.specs.Slots.{names_at, names_upward}
+use Rattle.class_rows.specs.UnitNames.{class_names, interface_names}
+use Rattle.class_rows.specs.Rows.{method_row, method_rows, class_row, interface_row, AreRows}
 use Rattle.class_tables.specs.Private.Chain.{base_in, chain_in}
 use Rattle.class_tables.specs.Private.Absorb.{first_number, with_numbers, numbers_of, own_in, methods_at, lookup_in, row_at, is_abstract_row, numbers_upward}
 use Rattle.class_tables.specs.Private.Graph.{LeadWithin}
-use Rattle.class_tables.proofs.IndexLaws.{place_has, place_some, place_stays, place_at_end, last_place}
+use Rattle.class_rows.proofs.IndexLaws.{place_has, place_some, place_stays, place_at_end, last_place}
 
 -- ---- names among names
 

@@ -6,7 +6,7 @@ use Rattle.std.proofs.lemmas.List.{get_or_read}
 use Rattle.st_rules.specs.Chains.{is_among, climb}
 use Rattle.st_rules.proofs.Booleans.{cases, true≢false, none≢some, some-same, differ_from_test}
 use Rattle.st_rules.proofs.ListLaws.{drop-at, drop-end}
-use Rattle.class_tables.specs.declared.rows.ClassRow.{ClassRow}
+use Rattle.class_rows.specs.declared.rows.ClassRow.{ClassRow}
 use Rattle.class_tables.specs.Private.Chain.{base_in, chain_in, AreWithin, HoldsThem}
 
 among-push : (n c : ℕ) (ns : List ℕ) → is_among n (ns ++ c ∷ []) ≡ (nat_eq n c || is_among n ns)

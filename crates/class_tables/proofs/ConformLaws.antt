@@ -15,10 +15,11 @@ use Rattle.st_rules.proofs.Booleans.{cases, either, true≢false, same-tests, or
 use Rattle.st_rules.proofs.ClassLaws.{chain_law, any_law, chain-top_law}
 use Rattle.st_rules.proofs.ClassLaws as laws
 use Rattle.st_rules.proofs.InterfaceLaws.{named_within, extended_within, extends_law}
-use Rattle.class_tables.specs.declared.rows.ClassRow.{ClassRow}
-use Rattle.class_tables.specs.declared.rows.UnitRows.{UnitRows}
-use Rattle.class_tables.specs.Slots.{all_names}
-use Rattle.class_tables.specs.Private.Rows.{class_names, interface_names, class_row, interface_row, AreRows}
+use Rattle.class_rows.specs.declared.rows.ClassRow.{ClassRow}
+use Rattle.class_rows.specs.declared.rows.UnitRows.{UnitRows}
+use Rattle.class_rows.specs.UnitNames.{all_names}
+use Rattle.class_rows.specs.UnitNames.{class_names, interface_names}
+use Rattle.class_rows.specs.Rows.{class_row, interface_row, AreRows}
 use Rattle.class_tables.specs.Private.Chain.{base_in}
 use Rattle.graph_reach.specs.Reach.{ahead_in, reaches, AreReached}
 use Rattle.class_tables.specs.Private.Graph.{graph_of, LeadWithin}

@@ -6,9 +6,9 @@ use Rattle.std.proofs.lemmas.List.{length-map}
 use Rattle.std.proofs.lemmas.Option.{slice_get_within}
 use Rattle.st_rules.specs.Chains.{is_among}
 use Rattle.st_rules.proofs.Booleans.{either, or-first, or-second, true≢false, none≢some}
-use Rattle.class_tables.specs.declared.rows.ClassRow.{ClassRow}
-use Rattle.class_tables.specs.declared.rows.InterfaceRow.{InterfaceRow}
-use Rattle.class_tables.specs.declared.rows.UnitRows.{UnitRows}
+use Rattle.class_rows.specs.declared.rows.ClassRow.{ClassRow}
+use Rattle.class_rows.specs.declared.rows.InterfaceRow.{InterfaceRow}
+use Rattle.class_rows.specs.declared.rows.UnitRows.{UnitRows}
 use Rattle.class_tables.specs.Private.Chain.{base_in}
 use Rattle.graph_reach.specs.Reach.{ahead_in, AreEdges}
 use Rattle.class_tables.specs.Private.Graph.{base_node, class_ahead, graph_of, LeadWithin}

@@ -1,6 +1,4 @@
 pub mod MapLaws
-pub mod IndexLaws
-pub mod RowLaws
 pub mod EndLaws
 pub mod StoreLaws
 pub mod AbsorbLaws

@@ -10,8 +10,8 @@ use Rattle.st_rules.specs.Chains.{is_among, climb, nearest, ◌or_else◌, IsAbo
 use Rattle.st_rules.proofs.Booleans.{none≢some, some-same}
 use Rattle.st_rules.proofs.ListLaws.{drop-at, drop-end}
 use Rattle.st_rules.proofs.ChainLaws.{IsWithin, nearest-chain, any-chain, chain_holds}
-use Rattle.class_tables.specs.declared.rows.ClassRow.{ClassRow}
-use Rattle.class_tables.specs.declared.rows.MethodRow.{MethodRow}
+use Rattle.class_rows.specs.declared.rows.ClassRow.{ClassRow}
+use Rattle.class_rows.specs.declared.rows.MethodRow.{MethodRow}
 use Rattle.class_tables.specs.declared.store.Entry.{Entry}
 use Rattle.class_tables.specs.declared.store.Store.{Store}
 use Rattle.class_tables.specs.declared.absorb.State.{State}
@@ -20,7 +20,7 @@ use Rattle.class_tables.specs.Private.Chain.{base_in, chain_in, AreWithin, NoneH
 use Rattle.class_tables.specs.Private.Store.{entry_of, entry_at, is_in, IsEntryMap, IsNumberMap, Grows, HasEmptyMap}
 use Rattle.class_tables.specs.Private.Absorb.{first_number, with_numbers, tally, numbers_of, own_in, methods_at, lookup_in, is_abstract_entry, one_if, numbers_upward, HasMaps, Holds, IsOwn, HasKeys, Absorbs}
 use Rattle.class_tables.specs.Private.Settle.{IsSettled, AreSettled, AreAllSettled, IsWork}
-use Rattle.class_tables.proofs.IndexLaws.{last_place}
+use Rattle.class_rows.proofs.IndexLaws.{last_place}
 use Rattle.class_tables.proofs.EndLaws.{chain_under, ends-base}
 use Rattle.class_tables.proofs.StoreLaws.{grows_same, grows_through, empty_grown}
 use Rattle.class_tables.proofs.AbsorbLaws.{holds_same, holds_grown, maps_grown}

@@ -8,8 +8,9 @@ use Rattle.st_rules.specs.Chains.{◌or_else◌, climb}
 use Rattle.st_rules.specs.Classes.{base_of, chain, lookup, own_method}
 use Rattle.st_rules.proofs.Booleans.{cases, none≢some, some-same, true≢false}
 use Rattle.st_rules.proofs.ClassLaws.{bases_within, lookup_law}
-use Rattle.class_tables.specs.Slots.{with_new, names_at, names_upward, all_names, ends_at_top, slot_names, slot}
-use Rattle.class_tables.proofs.IndexLaws.{place_has, place-push, else-some, at_end}
+use Rattle.class_rows.specs.UnitNames.{with_new, all_names}
+use Rattle.class_tables.specs.Slots.{names_at, names_upward, ends_at_top, slot_names, slot}
+use Rattle.class_rows.proofs.IndexLaws.{place_has, place-push, else-some, at_end}
 use Rattle.class_tables.proofs.EndLaws.{chain_under, ends-base}
 
 abbrev slot_if : {A : Type 0} → List (ClassDecl A) → ℕ → List ℕ → Option MethodId → Option ℕ

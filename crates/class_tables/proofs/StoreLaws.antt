@@ -7,7 +7,7 @@ use Rattle.class_tables.specs.declared.store.Entry.{Entry}
 use Rattle.class_tables.specs.declared.store.Store.{Store}
 use Rattle.class_tables.specs.Private.Maps.{part, value_at, IsMap, Keeps, Puts}
 use Rattle.class_tables.specs.Private.Store.{entry_at, map_value, entry_of, is_in, IsEntryMap, Grows, PutsEntry, PutsNumber, HasEmptyMap}
-use Rattle.class_tables.proofs.IndexLaws.{place_at_end}
+use Rattle.class_rows.proofs.IndexLaws.{place_at_end}
 use Rattle.class_tables.proofs.MapLaws.{keeps_same, keeps_through, value-put, empty_map, value-empty}
 
 slice-left : {X : Type 0} (xs ys : List X) (i : ℕ) → i < length xs → slice_get (xs ++ ys) i ≡ slice_get xs i

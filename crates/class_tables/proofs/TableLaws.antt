@@ -17,18 +17,20 @@ use Rattle.st_rules.specs.Interfaces as interface
 use Rattle.st_rules.specs.Interfaces.{implements_itself}
 use Rattle.st_rules.proofs.Booleans.{none≢some}
 use Rattle.st_rules.proofs.ClassLaws.{first_place_within}
-use Rattle.class_tables.specs.declared.unit_names.UnitNames.{UnitNames}
-use Rattle.class_tables.specs.declared.rows.UnitRows.{UnitRows}
-use Rattle.class_tables.specs.declared.rows.ClassRow.{ClassRow}
-use Rattle.class_tables.specs.declared.rows.MethodRow.{MethodRow}
+use Rattle.class_rows.specs.declared.unit_names.UnitNames.{UnitNames}
+use Rattle.class_rows.specs.declared.rows.UnitRows.{UnitRows}
+use Rattle.class_rows.specs.declared.rows.ClassRow.{ClassRow}
+use Rattle.class_rows.specs.declared.rows.MethodRow.{MethodRow}
 use Rattle.class_tables.specs.declared.store.Entry.{Entry}
 use Rattle.class_tables.specs.declared.absorb.State.{State}
 use Rattle.class_tables.specs.declared.settle.Settled.{Settled}
 use Rattle.class_tables.specs.Slots as slots
-use Rattle.class_tables.specs.Slots.{all_names, ends_at_top, names_upward, slot_names}
+use Rattle.class_rows.specs.UnitNames.{all_names}
+use Rattle.class_tables.specs.Slots.{ends_at_top, names_upward, slot_names}
 use Rattle.class_tables.specs.Private.Store.{entry_of}
 use Rattle.class_tables.specs.Private.Absorb.{first_number, methods_at}
-use Rattle.class_tables.specs.Private.Rows.{HasClasses, HasInterfaces, AreRows}
+use Rattle.class_rows.specs.UnitNames.{HasClasses, HasInterfaces}
+use Rattle.class_rows.specs.Rows.{AreRows}
 use Rattle.class_tables.specs.Private.Graph.{graph_of}
 use Rattle.class_tables.specs.Private.Chain.{base_in, chain_in, AreWithin}
 use Rattle.class_tables.specs.Private.Settle.{IsSettled, AreAllSettled}
@@ -36,7 +38,7 @@ use Rattle.class_tables.specs.Private.Tables.{AreTables}
 use Rattle.class_tables.specs.Private.Found as found
 use Rattle.graph_reach.specs.Reach.{reaches, AreReached}
 use Rattle.class_tables.proofs.BridgeLaws.{rows_long, interfaces_long, base-same, chain-same, lookup-same, lookup_none, place-same, keys_within, lead_within}
-use Rattle.class_tables.proofs.IndexLaws.{keys_long}
+use Rattle.class_rows.proofs.IndexLaws.{keys_long}
 use Rattle.class_tables.proofs.ConformLaws.{chain-past, class-past, interface-past, reaches-conforms, reaches-extends, extends-past}
 
 past_end : {X : Type 0} (xs : List X) (i : ℕ) → slice_get xs i ≡ None → length xs ≤ i

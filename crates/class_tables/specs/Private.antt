@@ -1,7 +1,5 @@
 -- The words of private contracts.
 pub mod Maps
-pub mod Index
-pub mod Rows
 pub mod Chain
 pub mod Store
 pub mod Absorb

@@ -4,8 +4,8 @@ ghost use Rattle.std.specs.Prelude.{◌≡◌, ◌<◌, ◌+◌, length, Option,
 ghost use Rattle.class_tables.specs.Private.Store.{Grows, entry_of};
 ghost use Rattle.class_tables.specs.Private.Absorb.{HasMaps, Declares, Absorbs};
 
-use crate::rows::{ClassRow, MethodRow};
 use crate::store::{Entry, Store};
+use class_rows::{ClassRow, MethodRow};
 use plc_text::NoMemory;
 use st_rules::MethodId;
 

@@ -4,7 +4,7 @@ ghost use Rattle.std.specs.Prelude.{◌≡◌, ◌<◌, ℕ, false, length, get_
 ghost use Rattle.class_tables.specs.Slots.{ends_at_top};
 ghost use Rattle.class_tables.specs.Private.Chain.{base_in, chain_in, AreWithin, HoldsThem, NoneHeld};
 
-use crate::rows::ClassRow;
+use class_rows::ClassRow;
 use plc_text::NoMemory;
 use std::alloc::Global;
 

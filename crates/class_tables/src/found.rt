@@ -4,10 +4,8 @@ ghost use Rattle.std.specs.Prelude.{◌≡◌, length};
 ghost use Rattle.graph_reach.specs.Reach.{reaches};
 ghost use Rattle.class_tables.specs.Private.Found as found;
 
-use crate::index::number_of;
-use crate::rows::UnitRows;
 use crate::settle::Settled;
-use crate::unit_names::UnitNames;
+use class_rows::{UnitNames, UnitRows, number_of};
 use graph_reach::Row;
 use plc_text::Text;
 use st_rules::MethodId;

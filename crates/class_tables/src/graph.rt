@@ -5,7 +5,7 @@ ghost use Rattle.class_tables.specs.Private.Graph as graph;
 ghost use Rattle.class_tables.specs.Private.Graph.{LeadWithin};
 ghost use Rattle.graph_reach.specs.Reach.{AreReached};
 
-use crate::rows::{ClassRow, UnitRows};
+use class_rows::{ClassRow, UnitRows};
 use graph_reach::{Row, find_reached};
 use plc_text::{Items, NoMemory};
 use std::alloc::Global;

@@ -6,16 +6,13 @@ mod absorb;
 mod chain;
 mod found;
 mod graph;
-mod index;
 mod laws;
 mod maps;
-mod rows;
 mod settle;
 mod store;
 mod tables;
 #[cfg(test)]
 mod tests;
-mod unit_names;
 
 pub use laws::slot_laws;
 pub use tables::ClassTables;

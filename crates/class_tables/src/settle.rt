@@ -3,14 +3,14 @@
 ghost use Rattle.std.specs.Prelude.{◌≡◌, ◌<◌, ◌≤◌, ℕ, false, length, Some, None, slice_get, replicate, IfOk, OnOk, MatchOption};
 ghost use Rattle.class_tables.specs.Private.Chain.{base_in, AreWithin, NoneHeld};
 ghost use Rattle.class_tables.specs.Private.Store.{Grows, HasEmptyMap};
-ghost use Rattle.class_tables.specs.declared.rows.MethodRow.{MethodRow};
+ghost use Rattle.class_rows.specs.declared.rows.MethodRow.{MethodRow};
 ghost use Rattle.class_tables.specs.Private.Absorb.{HasKeys, methods_at};
 ghost use Rattle.class_tables.specs.Private.Settle.{IsSettled, AreSettled, AreAllSettled, IsWork};
 
 use crate::absorb::{State, absorb};
 use crate::chain::{base, chain, ends};
-use crate::rows::ClassRow;
 use crate::store::Store;
+use class_rows::ClassRow;
 use plc_text::NoMemory;
 use std::alloc::Global;
 

@@ -9,10 +9,8 @@ ghost use Rattle.class_tables.specs.Slots as slots;
 
 use crate::found;
 use crate::graph::lead;
-use crate::index::first_place;
-use crate::rows::{UnitRows, unit_rows};
 use crate::settle::{Settled, settle_all};
-use crate::unit_names::{UnitNames, unit_names};
+use class_rows::{UnitNames, UnitRows, first_place, names_of_unit, unit_rows};
 use graph_reach::Row;
 use plc_text::{NoMemory, Text};
 use st_rules::MethodId;
@@ -57,7 +55,7 @@ impl ClassTables {
         ensures { IfOk result (λ tables. tables ≡ unit.now) }
     {
         let decls = unit.decls.as_slice();
-        let names = unit_names(alloc, decls)?;
+        let names = names_of_unit(alloc, decls)?;
         let rows = unit_rows(alloc, &names, decls)?;
         let settled = settle_all(alloc, rows.classes.as_slice(), names.methods.len())?;
         let reach = lead(alloc, &rows)?;

@@ -1,7 +1,7 @@
 -- Bases and chains, as rows tell them.
 use Rattle.std.specs.Prelude.{◌≡◌, ◌<◌, ℕ, suc, Bool, false, List, [], length, get_or, Option, Some, option_and_then, slice_get}
 use Rattle.st_rules.specs.Chains.{climb, is_among}
-use Rattle.class_tables.specs.declared.rows.ClassRow.{ClassRow}
+use Rattle.class_rows.specs.declared.rows.ClassRow.{ClassRow}
 
 abbrev pub base_in : List ClassRow → ℕ → Option ℕ
 base_in rows c = option_and_then (λ row. row.base) (slice_get rows c)

@@ -4,8 +4,8 @@ use Rattle.std.specs.Map.{keys_of}
 use Rattle.st_rules.specs.declared.ids.MethodId.{MethodId}
 use Rattle.st_rules.specs.Named.{first_place}
 use Rattle.graph_reach.specs.Reach.{reaches}
-use Rattle.class_tables.specs.declared.unit_names.UnitNames.{UnitNames}
-use Rattle.class_tables.specs.declared.rows.UnitRows.{UnitRows}
+use Rattle.class_rows.specs.declared.unit_names.UnitNames.{UnitNames}
+use Rattle.class_rows.specs.declared.rows.UnitRows.{UnitRows}
 use Rattle.class_tables.specs.declared.store.Entry.{Entry}
 use Rattle.class_tables.specs.declared.absorb.State.{State}
 use Rattle.class_tables.specs.declared.settle.Settled.{Settled}

@@ -1,9 +1,9 @@
 -- To which interfaces each interface and each class leads directly, as a graph: first the interfaces, then the classes.
 use Rattle.std.specs.Prelude.{◌≡◌, ℕ, ◌+◌, ◌<◌, true, List, [], ◌∷◌, ◌++◌, map, length, Option, Some, None, slice_get}
 use Rattle.st_rules.specs.Chains.{is_among}
-use Rattle.class_tables.specs.declared.rows.ClassRow.{ClassRow}
-use Rattle.class_tables.specs.declared.rows.InterfaceRow.{InterfaceRow}
-use Rattle.class_tables.specs.declared.rows.UnitRows.{UnitRows}
+use Rattle.class_rows.specs.declared.rows.ClassRow.{ClassRow}
+use Rattle.class_rows.specs.declared.rows.InterfaceRow.{InterfaceRow}
+use Rattle.class_rows.specs.declared.rows.UnitRows.{UnitRows}
 use Rattle.class_tables.specs.Private.Chain.{AreWithin}
 
 -- the node of a class behind so many interfaces

@@ -1,7 +1,7 @@
 -- What each class has.
 use Rattle.std.specs.Prelude.{◌≡◌, ℕ, Bool, true, List, length, Option, Some, slice_get}
 use Rattle.st_rules.specs.Chains.{is_among}
-use Rattle.class_tables.specs.declared.rows.ClassRow.{ClassRow}
+use Rattle.class_rows.specs.declared.rows.ClassRow.{ClassRow}
 use Rattle.class_tables.specs.declared.store.Store.{Store}
 use Rattle.class_tables.specs.declared.absorb.State.{State}
 use Rattle.class_tables.specs.Slots.{ends_at_top}

@@ -2,11 +2,12 @@
 use Rattle.std.specs.Prelude.{◌≡◌, ℕ, List, length}
 use Rattle.st_tree.specs.declared.declaration.ClassDecl.{ClassDecl}
 use Rattle.st_tree.specs.declared.declaration.InterfaceDecl.{InterfaceDecl}
-use Rattle.class_tables.specs.declared.unit_names.UnitNames.{UnitNames}
-use Rattle.class_tables.specs.declared.rows.UnitRows.{UnitRows}
+use Rattle.class_rows.specs.declared.unit_names.UnitNames.{UnitNames}
+use Rattle.class_rows.specs.declared.rows.UnitRows.{UnitRows}
 use Rattle.class_tables.specs.declared.settle.Settled.{Settled}
-use Rattle.class_tables.specs.Slots.{all_names}
-use Rattle.class_tables.specs.Private.Rows.{HasClasses, HasInterfaces, AreRows}
+use Rattle.class_rows.specs.UnitNames.{all_names}
+use Rattle.class_rows.specs.UnitNames.{HasClasses, HasInterfaces}
+use Rattle.class_rows.specs.Rows.{AreRows}
 use Rattle.class_tables.specs.Private.Settle.{AreAllSettled}
 use Rattle.graph_reach.specs.Reach.{AreReached}
 use Rattle.class_tables.specs.Private.Graph.{graph_of}

@@ -1,5 +1,5 @@
 use Rattle.std.proofs.Common.{◌≡◌, sym, ap, ◌∙◌}
-use Rattle.class_tables.specs.declared.rows.ClassRow.{ClassRow}
+use Rattle.class_rows.specs.declared.rows.ClassRow.{ClassRow}
 use Rattle.class_tables.specs.Private.Absorb.{methods_at}
 use Rattle.class_tables.proofs.AbsorbLaws.{absorb_more, absorb_all, methods_read}
 use Rattle.class_tables.proofs.ClimbLaws.{get_or-self}

@@ -1,5 +1,5 @@
 use Rattle.std.proofs.Common.{◌≡◌, ◌++◌, drop, map}
-use Rattle.class_tables.specs.declared.rows.InterfaceRow.{InterfaceRow}
+use Rattle.class_rows.specs.declared.rows.InterfaceRow.{InterfaceRow}
 use Rattle.class_tables.specs.Private.Graph.{class_ahead, graph_of}
 use Rattle.class_tables.proofs.graph.lists.Given as goal
 

@@ -1,5 +1,5 @@
 use Rattle.st_rules.specs.Classes.{classes_in}
-use Rattle.class_tables.specs.Private.Rows.{class_names}
+use Rattle.class_rows.specs.UnitNames.{class_names}
 use Rattle.class_tables.proofs.tables.ClassTables.class_named.Goals as goal
 
 pub returns : goal.returns

@@ -1,5 +1,5 @@
 use Rattle.st_rules.specs.Interfaces.{interfaces_in}
-use Rattle.class_tables.specs.Private.Rows.{interface_names}
+use Rattle.class_rows.specs.UnitNames.{interface_names}
 use Rattle.class_tables.proofs.tables.ClassTables.interface_named.Goals as goal
 
 pub returns : goal.returns

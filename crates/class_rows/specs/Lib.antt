@@ -1,0 +1,4 @@
+pub mod Index
+pub mod UnitNames
+pub mod Rows
+pub mod Private
