@@ -1,4 +1,5 @@
 pub mod Index
 pub mod UnitNames
 pub mod Rows
+pub mod Faults
 pub mod Private

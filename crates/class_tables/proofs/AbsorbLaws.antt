@@ -54,7 +54,7 @@ tally-same f g zero h = refl
 tally-same f g (suc m) h =
     ap (λ (b : Bool). (if b then 1 else 0) + tally g m) (h m (omega arith)) ∙ ap (λ t. (if f m then 1 else 0) + t) (tally-same f g m (λ n l. h n (omega arith)))
 
-tally_has : (f : ℕ → Bool) (x count : ℕ) → x < count → one_if (f x) ≤ tally f count
+pub tally_has : (f : ℕ → Bool) (x count : ℕ) → x < count → one_if (f x) ≤ tally f count
 tally_has f x zero h = absurd (omega arith)
 tally_has f x (suc m) h = at (tally_has f x m) (cases (nat_eq x m))
   where

@@ -130,7 +130,7 @@ with-numbers ns us (x ∷ xs) u a =
 
 -- ---- rows
 
-get-map : {X Y : Type 0} (f : X → Y) (xs : List X) (i : ℕ) → slice_get (map f xs) i ≡ option_map f (slice_get xs i)
+pub get-map : {X Y : Type 0} (f : X → Y) (xs : List X) (i : ℕ) → slice_get (map f xs) i ≡ option_map f (slice_get xs i)
 get-map f [] i = refl
 get-map f (x ∷ xs) zero = refl
 get-map f (x ∷ xs) (suc i) = get-map f xs i
@@ -193,7 +193,7 @@ module _ {A : Type 0} (classes : List (ClassDecl A)) (interfaces : List (Interfa
       at None e = λ i x h. absurd (none≢some h)
       at (Some class) e = all_in classes c class e
 
-  numbers-at : (c : ℕ) → numbers_of (methods_at rows.classes c) ≡ map (number names) (names_at classes c)
+  pub numbers-at : (c : ℕ) → numbers_of (methods_at rows.classes c) ≡ map (number names) (names_at classes c)
   numbers-at c = ap numbers_of (methods-same c) ∙ at (slice_get classes c)
     where
       at : (o : Option (ClassDecl A)) → numbers_of (unwrap_or (option_map (λ (class : ClassDecl A). method_rows names class.members) o) []) ≡ map (number names) (unwrap_or (option_map method_names o) [])

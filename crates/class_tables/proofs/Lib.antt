@@ -9,3 +9,5 @@ pub mod ConformLaws
 pub mod SettleLaws
 pub mod TableLaws
 pub mod SlotLaws
+pub mod BrokenLaws
+pub mod OpenLaws

@@ -1,12 +1,12 @@
 -- Slots: the same in a derived class, and two for two names.
-use Rattle.std.proofs.Common.{◌≡◌, ℕ, suc, Bool, true, false, List, [], ◌∷◌, ◌++◌, Option, Some, None, length, refl, sym, ap, ◌∙◌, ◌⊎◌, inl, inr}
+use Rattle.std.proofs.Common.{◌≡◌, ℕ, Bool, true, false, List, [], ◌∷◌, ◌++◌, Option, Some, None, length, refl, sym, ap, ◌∙◌}
 use Rattle.std.specs.Prelude.{if◌then◌else◌, is_some, option_and_then}
 use Rattle.st_tree.specs.declared.declaration.ClassDecl.{ClassDecl}
 use Rattle.st_rules.specs.declared.ids.MethodId.{MethodId}
 use Rattle.st_rules.specs.Named.{first_place}
-use Rattle.st_rules.specs.Chains.{◌or_else◌, climb}
+use Rattle.st_rules.specs.Chains.{◌or_else◌}
 use Rattle.st_rules.specs.Classes.{base_of, chain, lookup, own_method}
-use Rattle.st_rules.proofs.Booleans.{cases, none≢some, some-same, true≢false}
+use Rattle.st_rules.proofs.Booleans.{none≢some, some-same}
 use Rattle.st_rules.proofs.ClassLaws.{bases_within, lookup_law}
 use Rattle.class_rows.specs.UnitNames.{with_new, all_names}
 use Rattle.class_tables.specs.Slots.{names_at, names_upward, ends_at_top, slot_names, slot}

@@ -1,6 +1,6 @@
 -- What is found in the parts of tables is what the definitions say.
 use Rattle.std.proofs.Common.{◌≡◌, ℕ, zero, suc, ◌+◌, ◌<◌, ◌≤◌, Bool, true, false, List, [], ◌∷◌, Option, Some, None, length, refl, sym, ap, ◌∙◌, arith, subst, nat_eq, nat_lt, ◌⊎◌, inl, inr}
-use Rattle.std.specs.Prelude.{◌&&◌, if◌then◌else◌, slice_get, option_map, option_and_then, is_some}
+use Rattle.std.specs.Prelude.{◌&&◌, if◌then◌else◌, slice_get, option_map, option_and_then, is_some, ◌||◌, unwrap_or}
 use Rattle.std.specs.Option.{is_none}
 use Rattle.std.specs.List.{list_any}
 use Rattle.std.proofs.lemmas.Option.{slice_get_past}
@@ -12,9 +12,15 @@ use Rattle.st_tree.specs.declared.declaration.InterfaceDecl.{InterfaceDecl}
 use Rattle.st_rules.specs.declared.ids.MethodId.{MethodId}
 use Rattle.st_rules.specs.Named.{first_place}
 use Rattle.st_rules.specs.Chains.{is_among, nearest, ◌or_else◌}
-use Rattle.st_rules.specs.Classes.{base_of, chain, lookup, own_method, method_id, method_names}
+use Rattle.st_rules.specs.Classes.{base_of, chain, lookup, own_method, method_id, method_names, methods_in, method_at}
 use Rattle.st_rules.specs.Interfaces as interface
 use Rattle.st_rules.specs.Interfaces.{implements_itself}
+use Rattle.st_rules.specs.Numbered.{passes_if_there}
+use Rattle.st_rules.specs.InterfaceRules.{means_abstract, declares_one, has_abstract_method, is_public, lies_on_interface_cycle}
+use Rattle.st_rules.specs.Modifiers.{is_abstract, same_access, method_access}
+use Rattle.st_rules.specs.declared.modifiers.Access.TheVariants.{Public}
+use Rattle.st_tree.specs.declared.declaration.Method.{Method}
+use Rattle.class_rows.specs.declared.rows.InterfaceRow.{InterfaceRow}
 use Rattle.st_rules.proofs.Booleans.{none≢some}
 use Rattle.st_rules.proofs.ClassLaws.{first_place_within}
 use Rattle.class_rows.specs.declared.unit_names.UnitNames.{UnitNames}
@@ -25,19 +31,19 @@ use Rattle.class_tables.specs.declared.store.Entry.{Entry}
 use Rattle.class_tables.specs.declared.absorb.State.{State}
 use Rattle.class_tables.specs.declared.settle.Settled.{Settled}
 use Rattle.class_tables.specs.Slots as slots
-use Rattle.class_rows.specs.UnitNames.{all_names}
+use Rattle.class_rows.specs.UnitNames.{all_names, class_names, interface_names}
 use Rattle.class_tables.specs.Slots.{ends_at_top, names_upward, slot_names}
 use Rattle.class_tables.specs.Private.Store.{entry_of}
 use Rattle.class_tables.specs.Private.Absorb.{first_number, methods_at}
 use Rattle.class_rows.specs.UnitNames.{HasClasses, HasInterfaces}
-use Rattle.class_rows.specs.Rows.{AreRows}
+use Rattle.class_rows.specs.Rows.{AreRows, method_row, class_row, interface_row}
 use Rattle.class_tables.specs.Private.Graph.{graph_of}
 use Rattle.class_tables.specs.Private.Chain.{base_in, chain_in, AreWithin}
 use Rattle.class_tables.specs.Private.Settle.{IsSettled, AreAllSettled}
 use Rattle.class_tables.specs.Private.Tables.{AreTables}
 use Rattle.class_tables.specs.Private.Found as found
 use Rattle.graph_reach.specs.Reach.{reaches, AreReached}
-use Rattle.class_tables.proofs.BridgeLaws.{rows_long, interfaces_long, base-same, chain-same, lookup-same, lookup_none, place-same, keys_within, lead_within}
+use Rattle.class_tables.proofs.BridgeLaws.{rows_long, interfaces_long, base-same, chain-same, lookup-same, lookup_none, place-same, keys_within, lead_within, row-at, interface-at, method-same}
 use Rattle.class_rows.proofs.IndexLaws.{keys_long}
 use Rattle.class_tables.proofs.ConformLaws.{chain-past, class-past, interface-past, reaches-conforms, reaches-extends, extends-past}
 
@@ -51,6 +57,10 @@ ends-same f g h [] = refl
 ends-same f g h (c ∷ []) = ap is_none (h c)
 ends-same f g h (c ∷ d ∷ cs) = ends-same f g h (d ∷ cs)
 
+any-same : (f g : ℕ → Bool) → ((n : ℕ) → f n ≡ g n) → (ns : List ℕ) → list_any f ns ≡ list_any g ns
+any-same f g h [] = refl
+any-same f g h (n ∷ ns) = ap (λ b. b || list_any f ns) (h n) ∙ ap (λ b. g n || b) (any-same f g h ns)
+
 below : (a b : ℕ) → ((a < b) × (nat_lt a b ≡ true)) ⊎ ((b ≤ a) × (nat_lt a b ≡ false))
 below a b = at (nat_lt a b) refl
   where
@@ -58,12 +68,17 @@ below a b = at (nat_lt a b) refl
     at true e = let h : a < b = grind (arith, nat_tests) in inl (h, e)
     at false e = let h : b ≤ a = grind (arith, nat_tests) in inr (h, e)
 
+pub no_abstract : {A : Type 0} (classes : List (ClassDecl A)) (interfaces : List (InterfaceDecl A)) (c : ℕ) → length classes ≤ c → has_abstract_method classes c ≡ false
+no_abstract classes interfaces c h =
+    ap (list_any (declares_one classes (means_abstract classes c))) (chain-past classes interfaces c h)
+    ∙ ap (λ o. passes_if_there (λ class. list_any (λ m. means_abstract classes c m.name.text) (methods_in class.members)) o || false) (slice_get_past classes c h)
+
 module _ {A : Type 0} (classes : List (ClassDecl A)) (interfaces : List (InterfaceDecl A)) (names : UnitNames) (rows : UnitRows) (settled : Settled) (reach : List (List ℕ))
     (t : AreTables classes interfaces names rows settled reach) where
   states_long : length settled.states.items ≡ length classes
   states_long = t.count ∙ rows_long classes interfaces rows t.are_rows
 
-  no_state : (c : ℕ) → found.state_at settled c ≡ None → length classes ≤ c
+  pub no_state : (c : ℕ) → found.state_at settled c ≡ None → length classes ≤ c
   no_state c e = let p = past_end settled.states.items c e in let l = states_long in omega (arith, p, l)
 
   lookup-past : (c : ℕ) (name : List ℕ) → length classes ≤ c → lookup classes c name ≡ None
@@ -78,17 +93,19 @@ module _ {A : Type 0} (classes : List (ClassDecl A)) (interfaces : List (Interfa
   means-lookup : (c n : ℕ) (s : State) (name : List ℕ) → first_place name (all_names classes) ≡ Some n → found.state_at settled c ≡ Some s → means c n s ≡ lookup classes c name
   means-lookup c n s name e f = (t.states.settled c s f).holds.methods n (first_place_within name (all_names classes) n e) ∙ lookup-same classes interfaces rows t.are_rows name n e c
 
+  pub entry_found : (c n : ℕ) (name : List ℕ) → first_place name (all_names classes) ≡ Some n → found.with_entry settled c (λ s e. e.id) n ≡ lookup classes c name
+  entry_found c n name e = there (found.state_at settled c) refl
+    where
+      there : (o : Option State) → found.state_at settled c ≡ o → option_and_then (λ (s : State). option_map (λ (e : Entry). e.id) (entry_of settled.store s.methods n)) o ≡ lookup classes c name
+      there None f = sym (lookup-past c name (no_state c f))
+      there (Some s) f = means-lookup c n s name e f
+
   pub method_found : (c : ℕ) (name : List ℕ) → found.method names settled c name ≡ lookup classes c name
   method_found c name = ap (λ ks. option_and_then (λ n. found.with_entry settled c (λ s e. e.id) n) (first_place name ks)) t.class_names.methods ∙ at (first_place name (all_names classes)) refl
     where
-      there : (n : ℕ) → first_place name (all_names classes) ≡ Some n → (o : Option State) → found.state_at settled c ≡ o →
-          option_and_then (λ (s : State). option_map (λ (e : Entry). e.id) (entry_of settled.store s.methods n)) o ≡ lookup classes c name
-      there n e None f = sym (lookup-past c name (no_state c f))
-      there n e (Some s) f = means-lookup c n s name e f
-
       at : (o : Option ℕ) → first_place name (all_names classes) ≡ o → option_and_then (λ n. found.with_entry settled c (λ s e. e.id) n) o ≡ lookup classes c name
       at None e = sym (lookup_none classes interfaces rows t.are_rows name c e)
-      at (Some n) e = there n e (found.state_at settled c) refl
+      at (Some n) e = entry_found c n name e
 
   -- ---- slots
 
@@ -190,6 +207,42 @@ module _ {A : Type 0} (classes : List (ClassDecl A)) (interfaces : List (Interfa
   pub conforms_interface : (c j : ℕ) (target : StType) (r : Bool) → target ≡ type.Interface j → r ≡ found.conforms_to rows reach c j → r ≡ interface.conforms classes interfaces c target
   unfolding interface.conforms
   conforms_interface c j target r e h = h ∙ conforms_found c j ∙ sym (ap (interface.conforms classes interfaces c) e)
+
+  -- ---- lines and access
+
+  pub public_found : (id : MethodId) → found.is_public rows id ≡ is_public classes id
+  public_found id = ap (passes_if_there (λ (m : MethodRow). same_access m.access Public)) (method-same classes interfaces rows t.are_rows id) ∙ at (method_at classes id)
+    where
+      at : (o : Option (Method A)) → passes_if_there (λ (m : MethodRow). same_access m.access Public) (option_map (method_row (all_names classes)) o) ≡ passes_if_there (λ m. same_access (method_access m.modifiers) Public) o
+      at None = refl
+      at (Some m) = refl
+
+  abbrev row_of : ClassDecl A → ClassRow
+  row_of = class_row (all_names classes) (class_names classes) (interface_names interfaces)
+
+  pub concrete_found : (c : ℕ) → found.concrete_line rows c ≡ option_and_then (λ class. if is_abstract class.modifiers then None else Some class.line) (slice_get classes c)
+  concrete_found c = ap (option_and_then found.line_of) (row-at classes interfaces rows t.are_rows c) ∙ at (slice_get classes c)
+    where
+      at : (o : Option (ClassDecl A)) → option_and_then found.line_of (option_map row_of o) ≡ option_and_then (λ class. if is_abstract class.modifiers then None else Some class.line) o
+      at None = refl
+      at (Some class) = refl
+
+  pub interface_line_found : (i : ℕ) → found.interface_line rows i ≡ option_map (λ interface. interface.line) (slice_get interfaces i)
+  interface_line_found i = ap (option_map (λ (row : InterfaceRow). row.line)) (interface-at classes interfaces rows t.are_rows i) ∙ at (slice_get interfaces i)
+    where
+      at : (o : Option (InterfaceDecl A)) → option_map (λ (row : InterfaceRow). row.line) (option_map (interface_row (interface_names interfaces)) o) ≡ option_map (λ interface. interface.line) o
+      at None = refl
+      at (Some interface) = refl
+
+  extended-same : (i : ℕ) → found.extended rows i ≡ interface.extended interfaces i
+  extended-same i = ap (λ o. unwrap_or (option_map (λ (row : InterfaceRow). row.extended) o) []) (interface-at classes interfaces rows t.are_rows i) ∙ at (slice_get interfaces i)
+    where
+      at : (o : Option (InterfaceDecl A)) → unwrap_or (option_map (λ (row : InterfaceRow). row.extended) (option_map (interface_row (interface_names interfaces)) o)) [] ≡ unwrap_or (option_map (λ j. interface.interfaces_named interfaces j.bases) o) []
+      at None = refl
+      at (Some j) = refl
+
+  pub cycle_found : (i : ℕ) → found.lies_on_cycle rows reach i ≡ lies_on_interface_cycle interfaces i
+  cycle_found i = any-same (λ j. found.extends rows reach j i) (λ j. interface.extends interfaces j i) (λ j. extends_found j i) (found.extended rows i) ∙ ap (list_any (λ j. interface.extends interfaces j i)) (extended-same i)
 
 -- ---- the tables as they are built
 

@@ -6,4 +6,5 @@ pub mod Absorb
 pub mod Settle
 pub mod Graph
 pub mod Found
+pub mod Broken
 pub mod Tables

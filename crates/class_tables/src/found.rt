@@ -1,14 +1,16 @@
 //! What is found in the parts of tables.
 
 ghost use Rattle.std.specs.Prelude.{◌≡◌, length};
+ghost use Rattle.std.specs.List.{list_any};
 ghost use Rattle.graph_reach.specs.Reach.{reaches};
 ghost use Rattle.class_tables.specs.Private.Found as found;
 
+use crate::broken::method_at;
 use crate::settle::Settled;
 use class_rows::{UnitNames, UnitRows, number_of};
 use graph_reach::Row;
 use plc_text::Text;
-use st_rules::MethodId;
+use st_rules::{Access, MethodId};
 
 /// The method that a name means in a class.
 pub fn method(names: &UnitNames, settled: &Settled, class: u32, name: &Text) -> Option<MethodId>
@@ -28,6 +30,16 @@ pub fn slot(names: &UnitNames, settled: &Settled, class: u32, name: &Text) -> Op
     let state = settled.states.get(class as usize)?;
     let entry = settled.store.entry(state.methods, number)?;
     Some(if state.ends { entry.slot } else { number })
+}
+
+/// Whether a name means an abstract method in a class.
+pub fn has_abstract(settled: &Settled, class: u32) -> bool
+    ensures { result ≡ found.has_abstract settled.now class }
+{
+    match settled.states.get(class as usize) {
+        Some(state) => state.abstracts != 0,
+        None => false,
+    }
 }
 
 /// Whether a class is another one or is derived from it.
@@ -72,4 +84,58 @@ pub fn extends(rows: &UnitRows, reach: &[Row], interface: u32, other: u32) -> bo
         return interface == other;
     }
     leads(reach, interface as usize, other as usize)
+}
+
+/// Whether an interface extends another one that extends it.
+pub fn lies_on_cycle(rows: &UnitRows, reach: &[Row], interface: u32) -> bool
+    ensures { result ≡ found.lies_on_cycle rows.now reach.now interface }
+{
+    match rows.interfaces.get(interface as usize) {
+        Some(row) => leads_back(rows, reach, row.extended.as_slice(), interface),
+        None => false,
+    }
+}
+
+fn leads_back(rows: &UnitRows, reach: &[Row], others: &[u32], interface: u32) -> bool
+    ensures { result ≡ list_any (λ other. found.extends rows.now reach.now other interface) others.now }
+{
+    others
+        .iter()
+        .any(|other| extends(rows, reach, *other, interface))
+}
+
+/// Whether a method is PUBLIC.
+pub fn is_public(rows: &UnitRows, id: MethodId) -> bool
+    ensures { result ≡ found.is_public rows.now id }
+{
+    match method_at(rows.classes.as_slice(), id) {
+        Some(method) => matches!(method.access, Access::Public),
+        None => false,
+    }
+}
+
+/// The line of a class that is not abstract.
+pub fn concrete_line(rows: &UnitRows, class: u32) -> Option<u32>
+    ensures { result ≡ found.concrete_line rows.now class }
+{
+    match rows.classes.get(class as usize) {
+        Some(row) => {
+            if row.is_abstract {
+                None
+            } else {
+                Some(row.line)
+            }
+        }
+        None => None,
+    }
+}
+
+/// The line of an interface.
+pub fn interface_line(rows: &UnitRows, interface: u32) -> Option<u32>
+    ensures { result ≡ found.interface_line rows.now interface }
+{
+    match rows.interfaces.get(interface as usize) {
+        Some(row) => Some(row.line),
+        None => None,
+    }
 }

@@ -3,6 +3,7 @@
 #![tactic(auto)]
 
 mod absorb;
+mod broken;
 mod chain;
 mod found;
 mod graph;
@@ -11,8 +12,6 @@ mod maps;
 mod settle;
 mod store;
 mod tables;
-#[cfg(test)]
-mod tests;
 
 pub use laws::slot_laws;
 pub use tables::ClassTables;

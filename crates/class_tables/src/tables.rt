@@ -1,19 +1,24 @@
 //! Which method a name means in a class, which slot it has, and to what a class conforms.
 
-ghost use Rattle.std.specs.Prelude.{◌≡◌, IfOk};
+ghost use Rattle.std.specs.Prelude.{◌≡◌, length, None, Some, if◌then◌else◌, option_and_then, option_map, slice_get, IfOk};
+ghost use Rattle.st_rules.specs.Modifiers.{is_abstract};
+ghost use Rattle.st_rules.specs.Faults.{least};
+ghost use Rattle.st_rules.specs.ClassRules as rules;
+ghost use Rattle.st_rules.specs.InterfaceRules as abstracts;
 ghost use Rattle.st_rules.specs.Classes as classes;
 ghost use Rattle.st_rules.specs.Classes.{classes_in};
 ghost use Rattle.st_rules.specs.Interfaces as interfaces;
 ghost use Rattle.st_rules.specs.Interfaces.{interfaces_in};
 ghost use Rattle.class_tables.specs.Slots as slots;
 
+use crate::broken::class_fault;
 use crate::found;
 use crate::graph::lead;
 use crate::settle::{Settled, settle_all};
 use class_rows::{UnitNames, UnitRows, first_place, names_of_unit, unit_rows};
 use graph_reach::Row;
-use plc_text::{NoMemory, Text};
-use st_rules::MethodId;
+use plc_text::{Code, NoMemory, Text};
+use st_rules::{MethodId, Signatures};
 use st_tree::Unit;
 use st_types::StType;
 use std::alloc::Global;
@@ -116,6 +121,66 @@ impl ClassTables {
             StType::Structure(_) => false,
             StType::Array(_, _, _) => false,
         }
+    }
+
+    /// Whether a class declares or inherits an abstract method.
+    pub fn has_abstract_method(&self, class: u32) -> bool
+        ensures { result ≡ abstracts.has_abstract_method (classes_in self.now.decls) class }
+    {
+        found::has_abstract(&self.settled, class)
+    }
+
+    /// Whether a method is PUBLIC.
+    pub fn is_public(&self, id: MethodId) -> bool
+        ensures { result ≡ abstracts.is_public (classes_in self.now.decls) id }
+    {
+        found::is_public(&self.rows, id)
+    }
+
+    /// The line of a class, if it is not abstract.
+    pub fn concrete_line(&self, class: u32) -> Option<u32>
+        ensures { result ≡ option_and_then (λ class. if is_abstract class.modifiers then None else Some class.line) (slice_get (classes_in self.now.decls) class) }
+    {
+        found::concrete_line(&self.rows, class)
+    }
+
+    /// The number of interfaces.
+    pub fn interface_count(&self) -> u32
+        ensures { result ≡ length (interfaces_in self.now.decls) }
+    {
+        self.names.interface_count
+    }
+
+    /// The line of an interface.
+    pub fn interface_line(&self, interface: u32) -> Option<u32>
+        ensures { result ≡ option_map (λ interface. interface.line) (slice_get (interfaces_in self.now.decls) interface) }
+    {
+        found::interface_line(&self.rows, interface)
+    }
+
+    /// Whether an interface extends one that extends it.
+    pub fn lies_on_interface_cycle(&self, interface: u32) -> bool
+        ensures { result ≡ abstracts.lies_on_interface_cycle (interfaces_in self.now.decls) interface }
+    {
+        found::lies_on_cycle(&self.rows, &self.reach, interface)
+    }
+
+    /// The least of E06 and E12 that a class breaks, and its line: a cycle of bases, and the rules of bases and of methods that are
+    /// overridden, hooks or abstract. The signatures are those of all methods, by the numbers of class and method.
+    pub fn broken<V: PartialEq>(
+        &self,
+        class: u32,
+        signatures: &Signatures<V>,
+    ) -> Option<(Code, u32)>
+        ensures { result ≡ least (rules.class_faults V.eq (classes_in self.now.decls) signatures.now class) }
+    {
+        class_fault(
+            &self.names.methods,
+            self.rows.classes.as_slice(),
+            &self.settled,
+            signatures,
+            class,
+        )
     }
 
     /// Whether an interface is another one or extends it, in any number of steps.
