@@ -8,3 +8,4 @@ pub mod ClassLaws
 pub mod InterfaceLaws
 pub mod SignatureLaws
 mod Examples
+mod ExpressionExamples
