@@ -1,12 +1,10 @@
 -- The definitions of expressions and statements at work on small trees.
-use Rattle.std.specs.Prelude.{◌≡◌, ℕ, codes, Bool, true, false, List, [], ◌∷◌, Option, Some, None, refl}
+use Rattle.std.specs.Prelude.{◌≡◌, ℕ, codes, Bool, true, false, List, [], ◌∷◌, Some, None, refl}
 use Rattle.plc_text.specs.declared.code.Code.TheVariants.{E05, E07, E08, E09, E10, E13}
 use Rattle.st_types.specs.declared.elem.Elem.TheVariants as elem
 use Rattle.st_types.specs.declared.st_type.StType.{StType}
 use Rattle.st_types.specs.declared.st_type.StType.TheVariants.{Elementary, Enumeration, Instance, Reference}
-use Rattle.st_tree.specs.declared.name.Name.{Name}
-use Rattle.st_tree.specs.declared.name.Used.{Used}
-use Rattle.st_tree.specs.declared.declaration.ClassSort.TheVariants.{Class, FunctionBlock}
+use Rattle.st_tree.specs.declared.declaration.ClassSort.TheVariants.{FunctionBlock}
 use Rattle.st_tree.specs.declared.declaration.ClassSort.{ClassSort}
 use Rattle.st_tree.specs.declared.declaration.ClassDecl.{ClassDecl}
 use Rattle.st_tree.specs.declared.declaration.SectionSort.{SectionSort}
@@ -18,19 +16,15 @@ use Rattle.st_tree.specs.Expression as tree
 use Rattle.st_tree.specs.Expression.{Expression}
 use Rattle.st_tree.specs.Statement as statement
 use Rattle.st_rules.specs.declared.modifiers.Access.{Access}
-use Rattle.st_rules.specs.declared.modifiers.Access.TheVariants.{Public, Protected, Private}
+use Rattle.st_rules.specs.declared.modifiers.Access.TheVariants.{Public, Protected}
 use Rattle.st_rules.specs.declared.signature.ResultType.TheVariants as outcome
 use Rattle.st_rules.specs.declared.asked.Asked.TheVariants.{Anything, Wanted}
 use Rattle.st_rules.specs.declared.names.DeclaredVariable.{DeclaredVariable}
-use Rattle.st_rules.specs.declared.names.DeclaredRoutine.{DeclaredRoutine}
-use Rattle.st_rules.specs.declared.names.DeclaredClass.{DeclaredClass}
-use Rattle.st_rules.specs.declared.names.DeclaredType.{DeclaredType}
 use Rattle.st_rules.specs.declared.names.DeclaredGlobal.TheVariants as global
 use Rattle.st_rules.specs.declared.names.TypeParts.TheVariants as parts
 use Rattle.st_rules.specs.declared.names.DeclaredNames.{DeclaredNames}
 use Rattle.st_rules.specs.Faults.{least}
 use Rattle.st_rules.specs.Classes.{chain, lookup}
-use Rattle.st_rules.specs.Interfaces.{conforms, extends}
 use Rattle.st_rules.specs.Types.{same_type}
 use Rattle.st_rules.specs.Kinds.{common_kind, instance_views}
 use Rattle.st_rules.specs.Scope.{Scope, sought, type_qualifier, dot_qualifier, instance_variable, is_text_under}

@@ -1,6 +1,6 @@
 -- Calls: what is called, its parameters, and how arguments are matched with them (IEC 61131-3:2013, 6.6.1.4, 6.6.2.2 and 6.6.5.5).
-use Rattle.std.specs.Prelude.{ℕ, zero, suc, nat_eq, Bool, true, false, not, ◌&&◌, ◌||◌, if◌then◌else◌, codes, List, [], ◌∷◌, ◌++◌, length, map, filter, flat_map, take, drop, reverse, Option, Some, None, option_map, option_and_then}
-use Rattle.std.specs.Option.{is_none, is_some}
+use Rattle.std.specs.Prelude.{ℕ, suc, nat_eq, Bool, true, false, not, ◌&&◌, ◌||◌, if◌then◌else◌, codes, List, [], ◌∷◌, ◌++◌, length, filter, flat_map, take, drop, reverse, Option, Some, None}
+use Rattle.std.specs.Option.{is_none}
 use Rattle.std.specs.List.{list_any}
 use Rattle.plc_text.specs.Words.{same}
 use Rattle.plc_text.specs.declared.code.Code.TheVariants.{E07, E08, E09, E10}

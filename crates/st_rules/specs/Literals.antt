@@ -1,5 +1,5 @@
 -- Literals: the types that they take, and whether they fit (IEC 61131-3:2013, 6.3.2).
-use Rattle.std.specs.Prelude.{ℕ, ◌^◌, nat_le, nat_lt, ℤ, pos, neg_ℤ, int_le, Bool, true, false, not, ◌&&◌, ◌||◌, if◌then◌else◌, List, [], Option, Some, None}
+use Rattle.std.specs.Prelude.{ℕ, nat_le, nat_lt, ℤ, pos, neg_ℤ, int_le, Bool, true, false, not, ◌&&◌, ◌||◌, if◌then◌else◌, List, [], Option, Some, None}
 use Rattle.plc_text.specs.declared.code.Code.TheVariants.{E07, E13}
 use Rattle.st_types.specs.declared.elem.Elem.{Elem}
 use Rattle.st_types.specs.declared.elem.Elem.TheVariants as kind
@@ -12,7 +12,7 @@ use Rattle.st_tree.specs.Number.{number_of}
 use Rattle.st_tree.specs.Duration.{milliseconds}
 use Rattle.st_rules.specs.declared.asked.Asked.{Asked}
 use Rattle.st_rules.specs.declared.asked.Asked.TheVariants.{Anything, Wanted, Untold}
-use Rattle.st_rules.specs.Faults.{Faults, at, when}
+use Rattle.st_rules.specs.Faults.{Faults, when}
 use Rattle.st_rules.specs.Kinds.{dint, is_bool, is_number, is_elementary}
 
 -- ---- what a place asks for

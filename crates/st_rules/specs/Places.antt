@@ -1,11 +1,8 @@
 -- Places: variables and their parts, what a call calls, and which rules they break (IEC 61131-3:2013, 6.4.4, 6.5.2 and 6.6.5). Here the
 -- indices count by their number alone; Expressions has the rules of the indices themselves.
-use Rattle.std.specs.Prelude.{ℕ, zero, suc, nat_eq, nat_lt, Bool, true, false, not, ◌&&◌, ◌||◌, if◌then◌else◌, List, [], ◌∷◌, ◌++◌, filter, flat_map, reverse, Option, Some, None, option_map, option_and_then, slice_get}
-use Rattle.std.specs.Option.{is_none, is_some}
-use Rattle.std.specs.List.{list_any}
-use Rattle.plc_text.specs.Words.{same}
-use Rattle.plc_text.specs.declared.code.Code.TheVariants.{E05, E07, E08, E09, E10, E16}
-use Rattle.st_types.specs.declared.elem.Elem.{Elem}
+use Rattle.std.specs.Prelude.{ℕ, zero, suc, nat_lt, Bool, true, false, not, ◌&&◌, ◌||◌, if◌then◌else◌, List, [], ◌++◌, Option, Some, None, option_map, option_and_then, slice_get}
+use Rattle.std.specs.Option.{is_none}
+use Rattle.plc_text.specs.declared.code.Code.TheVariants.{E05, E07, E08, E10, E16}
 use Rattle.st_types.specs.declared.st_type.StType.{StType}
 use Rattle.st_types.specs.declared.st_type.StType.TheVariants as type
 use Rattle.st_tree.specs.declared.declaration.ClassDecl.{ClassDecl}
@@ -20,10 +17,9 @@ use Rattle.st_rules.specs.declared.ids.PrototypeId.{PrototypeId}
 use Rattle.st_rules.specs.declared.names.DeclaredVariable.{DeclaredVariable}
 use Rattle.st_rules.specs.declared.names.DeclaredRoutine.{DeclaredRoutine}
 use Rattle.st_rules.specs.declared.names.DeclaredField.{DeclaredField}
-use Rattle.st_rules.specs.declared.modifiers.Access.{Access}
-use Rattle.st_rules.specs.Faults.{Faults, at, when}
+use Rattle.st_rules.specs.Faults.{Faults, when}
 use Rattle.st_rules.specs.Chains.{◌or_else◌}
-use Rattle.st_rules.specs.Classes.{base_of, chain, lookup}
+use Rattle.st_rules.specs.Classes.{base_of, lookup}
 use Rattle.st_rules.specs.Interfaces.{interface_lookup}
 use Rattle.st_rules.specs.Kinds.{holds_instances, element_type}
 use Rattle.st_rules.specs.Scope.{Scope, Meant, a_variable, a_function, an_enumerator, Qualifier, values_of, of_untold, no_qualifier, sought, dot_qualifier, value_of, instance_variable, field_named, method_routine, prototype_routine, is_of_body, may_use, is_text_under, variables_of}

@@ -1,16 +1,11 @@
 -- The rules that statements break, and their typed trees (IEC 61131-3:2013, 7.3.3).
-use Rattle.std.specs.Prelude.{ℕ, ℤ, pos, neg_ℤ, Bool, true, false, not, ◌&&◌, ◌||◌, if◌then◌else◌, List, [], ◌∷◌, ◌++◌, map, Option, Some, None, option_map, nat_lt}
-use Rattle.std.specs.Option.{is_none, is_some}
-use Rattle.plc_text.specs.declared.code.Code.TheVariants.{E05, E07, E08, E10, E16}
-use Rattle.st_types.specs.declared.elem.Elem.{Elem}
+use Rattle.std.specs.Prelude.{ℕ, pos, neg_ℤ, Bool, true, false, not, ◌&&◌, ◌||◌, List, [], ◌∷◌, ◌++◌, map, Option, Some, None, option_map}
+use Rattle.plc_text.specs.declared.code.Code.TheVariants.{E05, E07, E08, E10}
 use Rattle.st_types.specs.Elem.{is_integer}
 use Rattle.st_types.specs.declared.st_type.StType.{StType}
 use Rattle.st_types.specs.declared.st_type.StType.TheVariants as type
 use Rattle.st_tree.specs.declared.expression.Root.{Root}
-use Rattle.st_tree.specs.declared.expression.Root.TheVariants as root
-use Rattle.st_tree.specs.declared.expression.Literal.{Literal}
 use Rattle.st_tree.specs.declared.program.Note.{Note}
-use Rattle.st_tree.specs.declared.program.Target.{Target}
 use Rattle.st_tree.specs.declared.program.Target.TheVariants as target
 use Rattle.st_tree.specs.declared.statement.Label.{Label}
 use Rattle.st_tree.specs.declared.statement.LabelEnd.{LabelEnd}
@@ -19,15 +14,14 @@ use Rattle.st_tree.specs.Expression.{Expression, Null, Paren, Expressions, no_ex
 use Rattle.st_tree.specs.Expression as tree
 use Rattle.st_tree.specs.Number.{number_of}
 use Rattle.st_tree.specs.Statement.{Statement, Empty, Assign, Attempt, Call, Exit, Continue, Return, If, Case, For, While, Repeat, Statements, no_statements, statement_then, Branches, no_branches, branch_then, Cases, no_cases, case_then, Otherwise, Nothing, Else}
-use Rattle.st_rules.specs.declared.names.DeclaredVariable.{DeclaredVariable}
 use Rattle.st_rules.specs.declared.asked.Asked.{Asked}
-use Rattle.st_rules.specs.declared.asked.Asked.TheVariants.{Anything, Wanted, Untold}
+use Rattle.st_rules.specs.declared.asked.Asked.TheVariants.{Anything, Wanted}
 use Rattle.st_rules.specs.Faults.{Faults, at, when}
 use Rattle.st_rules.specs.Kinds.{boolean, is_number, is_elementary, is_reference, is_instance, is_enumeration}
 use Rattle.st_rules.specs.Literals.{asked_of, int_type, negative_type, past_64_bits, number_past_its_type, typed_literal_type, literal_number, truth_of_another_kind, literal_past_its_kind}
-use Rattle.st_rules.specs.Scope.{Scope, Meant, a_variable, an_enumerator, Qualifier, values_of, of_untold, no_qualifier, sought, type_qualifier, dot_qualifier, value_of}
-use Rattle.st_rules.specs.Places.{root_line, root_standing, place_type, name_faults, root_faults, whole_faults, too_many_selectors, target_faults, is_no_variable}
-use Rattle.st_rules.specs.Calls.{Callee, callee, call_type, callee_faults, is_on_super, heads, call_matches, value_unsuited}
+use Rattle.st_rules.specs.Scope.{Scope, Meant, a_variable, an_enumerator, Qualifier, values_of, of_untold, no_qualifier, sought, type_qualifier, dot_qualifier}
+use Rattle.st_rules.specs.Places.{root_line, root_standing, place_type, name_faults, root_faults, whole_faults, too_many_selectors, target_faults}
+use Rattle.st_rules.specs.Calls.{callee, call_type, callee_faults, is_on_super, heads, call_matches, value_unsuited}
 use Rattle.st_rules.specs.Expressions.{line_of, type_of, along_faults, argument_faults, called_root_faults, too_many_operators, expression_faults, enumerator_type, enumerator_not_found, note_of_value, note, meant_target, value_target, typed, typed_root, typed_along, typed_arguments}
 
 -- ---- the limit of operators in places and arguments, whose expressions stand alone
