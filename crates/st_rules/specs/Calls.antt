@@ -185,7 +185,7 @@ later_matches [] = []
 later_matches (m ∷ ms) = ms
 
 -- what an argument is asked for
-abbrev pub asked_by : Matched → Asked
+unfoldable pub asked_by : Matched → Asked
 asked_by None = Anything
 asked_by (Some m) = asked_of m.1.kind
 
@@ -193,7 +193,7 @@ abbrev pub binds : Matched → Bool
 binds None = false
 binds (Some m) = is_in_out_sort m.1.sort
 
-abbrev pub matched_type : Matched → Option StType
+unfoldable pub matched_type : Matched → Option StType
 matched_type None = None
 matched_type (Some m) = m.1.kind
 
@@ -233,7 +233,7 @@ abbrev pub outcome_type : ResultType → Option StType
 outcome_type outcome.Nothing = None
 outcome_type (outcome.Written t) = t
 
-abbrev pub call_type : Callee → Option StType
+unfoldable pub call_type : Callee → Option StType
 call_type (a_conversion a b) = Some (type.Elementary b)
 call_type (a_routine r) = outcome_type r.outcome
 call_type _ = None
@@ -249,7 +249,7 @@ has_no_value (a_body c) = true
 has_no_value (base_body b) = true
 has_no_value _ = false
 
-abbrev pub call_without_result : ℕ → Callee → Faults
+unfoldable pub call_without_result : ℕ → Callee → Faults
 call_without_result line c = when (has_no_value c) E07 line
 
 -- the operand of a conversion, as an input without a name
@@ -263,7 +263,7 @@ is_direct (selector_then (Field l name) ss) = places.is_last ss
 is_direct (selector_then (Index l es) ss) = false
 is_direct (selector_then (tree.Target l) ss) = is_direct ss
 
-abbrev pub is_on_super : Root ℕ → Selectors ℕ → Bool
+unfoldable pub is_on_super : Root ℕ → Selectors ℕ → Bool
 is_on_super (root.Super l) ss = is_direct ss
 is_on_super _ ss = false
 
@@ -342,7 +342,7 @@ module _ (s : Scope) where
   has_in_outs c = list_any (λ v. is_in_out_sort v.sort) (block_parameters c)
 
   -- which parameter each argument is for
-  abbrev pub call_matches : Callee → List Head → List Matched
+  unfoldable pub call_matches : Callee → List Head → List Matched
   call_matches c hs = matches (callee_parameters c) hs
 
   -- ---- the rules of a call, but those of its place and its arguments themselves
@@ -380,7 +380,7 @@ module _ (s : Scope) where
   has_parameters (a_body c) = true
   has_parameters _ = false
 
-  abbrev pub callee_faults : ℕ → Bool → Callee → List Head → Faults
+  unfoldable pub callee_faults : ℕ → Bool → Callee → List Head → Faults
   callee_faults line on_super c hs =
       call_of_no_callable line c
       ++ super_call_without_base_block line c
@@ -393,7 +393,7 @@ module _ (s : Scope) where
   -- ---- values, bound places and outputs
 
   -- a value that is not to be assigned where it stands: its line is that of its first token
-  abbrev pub value_unsuited : ℕ → Asked → Option StType → Faults
+  unfoldable pub value_unsuited : ℕ → Asked → Option StType → Faults
   value_unsuited line (Wanted u) (Some t) = when (not (is_assignable s.classes s.interfaces t u)) E07 line
   value_unsuited line _ _ = []
 
@@ -411,6 +411,6 @@ module _ (s : Scope) where
   bound_no_variable line e = when (not (is_bindable_place e)) E08 line
 
   -- an output that is not to be assigned to the place that takes it
-  abbrev pub output_unsuited : ℕ → Option StType → Option StType → Faults
+  unfoldable pub output_unsuited : ℕ → Option StType → Option StType → Faults
   output_unsuited line (Some t) (Some u) = when (not (is_assignable s.classes s.interfaces t u)) E07 line
   output_unsuited line _ _ = []

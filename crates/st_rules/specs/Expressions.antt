@@ -18,7 +18,7 @@ use Rattle.st_rules.specs.declared.asked.Asked.{Asked}
 use Rattle.st_rules.specs.declared.asked.Asked.TheVariants.{Anything}
 use Rattle.st_rules.specs.Faults.{Faults, at, when}
 use Rattle.st_rules.specs.Kinds.{boolean, time, is_number, is_elementary, is_arithmetic, operation_type, suits_operator, takes_not, takes_minus, unary_type}
-use Rattle.st_rules.specs.Literals.{asked_of, number_asked, int_type, negative_type, past_64_bits, number_past_its_type, typed_literal_type, truth_of_another_kind, literal_past_its_kind, time_past_32_bits, null_type}
+use Rattle.st_rules.specs.Literals.{int_faults, negative_faults, typed_literal_faults, asked_of, number_asked, int_type, negative_type, past_64_bits, number_past_its_type, typed_literal_type, truth_of_another_kind, literal_past_its_kind, time_past_32_bits, null_type}
 use Rattle.st_rules.specs.Scope.{Scope, Meant, a_variable, a_function, an_enumerator, Qualifier, values_of, of_untold, no_qualifier, sought, type_qualifier, dot_qualifier, value_of}
 use Rattle.st_rules.specs.Scope as scope
 use Rattle.st_rules.specs.Places.{Standing, an_enumeration, standing_type, Part, a_field, a_member, a_prototype, a_value_of, part_type, part_of, meant_type, is_last, root_line, root_standing, place_type, selected, root_faults, selector_faults, whole_faults, too_many_selectors, target_faults}
@@ -101,11 +101,11 @@ too_many_operators e = when (nat_lt 256 (operators e)) E16 (line_of e)
 -- ---- operators by the types of their operands
 
 -- an operator does not take its operands; where one cannot be told nothing is broken
-abbrev pub operands_unsuited : ℕ → Operator → Option StType → Option StType → Faults
+unfoldable pub operands_unsuited : ℕ → Operator → Option StType → Option StType → Faults
 operands_unsuited line o (Some t) (Some u) = when (not (suits_operator o t u)) E07 line
 operands_unsuited line o _ _ = []
 
-abbrev pub operand_unsuited : ℕ → (Elem → Bool) → Option StType → Faults
+unfoldable pub operand_unsuited : ℕ → (Elem → Bool) → Option StType → Faults
 operand_unsuited line takes None = []
 operand_unsuited line takes (Some t) = when (not (is_elementary takes t)) E07 line
 
@@ -113,16 +113,16 @@ abbrev pub is_no_index : StType → Bool
 is_no_index t = not (is_elementary is_number t)
 
 -- an index that is no integer and no bit string
-abbrev pub index_unsuited : ℕ → Option StType → Faults
+unfoldable pub index_unsuited : ℕ → Option StType → Faults
 index_unsuited line None = []
 index_unsuited line (Some t) = when (is_no_index t) E07 line
 
 -- what an untyped operand of a row is asked for, where the row before it is untyped and asked for something, or has a type
-abbrev pub operand_asked : Bool → Bool → Asked → Option StType → Asked
+unfoldable pub operand_asked : Bool → Bool → Asked → Option StType → Asked
 operand_asked untyped true asked t = if untyped then asked else asked_of t
 operand_asked untyped false asked t = Anything
 
-abbrev pub front_asked : Bool → Asked → Asked
+unfoldable pub front_asked : Bool → Asked → Asked
 front_asked true asked = asked
 front_asked false asked = Anything
 
@@ -132,14 +132,14 @@ abbrev pub reference_to : StType → Option StType
 reference_to (type.Instance c) = Some (type.Reference c)
 reference_to _ = None
 
-abbrev pub reference_to_no_instance : ℕ → Option StType → Faults
+unfoldable pub reference_to_no_instance : ℕ → Option StType → Faults
 reference_to_no_instance line None = []
 reference_to_no_instance line (Some t) = when (is_none (reference_to t)) E07 line
 
 -- ---- notes
 
 -- the type in a note; one that cannot be told is seen by nobody, since the unit is refused
-abbrev pub told : Option StType → StType
+unfoldable pub told : Option StType → StType
 told None = boolean
 told (Some t) = t
 
@@ -168,7 +168,7 @@ part_target (Some (places.a_method id)) = target.Method id.method
 part_target (Some (a_prototype id)) = target.Method id.method
 part_target (Some (a_value_of n k)) = target.Enumerator k
 
-abbrev pub matched_target : Matched → Target
+unfoldable pub matched_target : Matched → Target
 matched_target None = target.Nothing
 matched_target (Some m) = target.Parameter m.0
 
@@ -184,7 +184,7 @@ module _ (s : Scope) where
   value_type n None = None
   value_type n (Some k) = Some (type.Enumeration n)
 
-  abbrev pub enumerator_type : Qualifier → List ℕ → Option StType
+  unfoldable pub enumerator_type : Qualifier → List ℕ → Option StType
   enumerator_type (values_of n) name = value_type n (value_of s n name)
   enumerator_type of_untold name = None
   enumerator_type no_qualifier name = None
@@ -193,12 +193,12 @@ module _ (s : Scope) where
   enumerator_target None = target.Nothing
   enumerator_target (Some k) = target.Enumerator k
 
-  abbrev pub note_of_value : Qualifier → List ℕ → Target
+  unfoldable pub note_of_value : Qualifier → List ℕ → Target
   note_of_value (values_of n) name = enumerator_target (value_of s n name)
   note_of_value _ name = target.Nothing
 
   -- no enumeration before `#`, or no value of it behind
-  abbrev pub enumerator_not_found : ℕ → ℕ → Qualifier → List ℕ → Faults
+  unfoldable pub enumerator_not_found : ℕ → ℕ → Qualifier → List ℕ → Faults
   enumerator_not_found line name_line (values_of n) name = when (is_none (value_of s n name)) E05 name_line
   enumerator_not_found line name_line of_untold name = []
   enumerator_not_found line name_line no_qualifier name = at E05 line
@@ -208,7 +208,7 @@ module _ (s : Scope) where
   abbrev mutual
     -- the type of an expression, from what its place asks for; None where it cannot be told
     pub type_of : Asked → Expression ℕ → Option StType
-    type_of asked (Int l digits) = int_type asked (number_of digits)
+    type_of asked (Int l digits) = int_type asked digits
     type_of asked (Typed l k literal) = typed_literal_type k literal
     type_of asked (Time l text) = Some time
     type_of asked (True l) = Some boolean
@@ -249,22 +249,22 @@ module _ (s : Scope) where
   is_conversion _ ss = false
 
   -- the name of a conversion that is called is sought nowhere
-  abbrev pub called_root_faults : Root ℕ → Selectors ℕ → Faults
+  unfoldable pub called_root_faults : Root ℕ → Selectors ℕ → Faults
   called_root_faults r ss = if is_conversion r ss then [] else root_faults s true r ss
 
-  -- a value that does not suit its parameter, or what is bound to an in-out and will not do
-  abbrev pub given_unsuited : Matched → Expression ℕ → Faults
-  given_unsuited m e =
+  -- a value that does not suit its parameter, or what is bound to an in-out and will not do; its type comes last
+  unfoldable pub given_unsuited : Matched → Expression ℕ → Option StType → Faults
+  given_unsuited m e t =
       if binds m
-      then bound_to_another_type s (line_of e) (matched_type m) (type_of (asked_by m) e) ++ bound_no_variable s (line_of e) e
-      else value_unsuited s (line_of e) (asked_by m) (type_of (asked_by m) e)
+      then bound_to_another_type s (line_of e) (matched_type m) t ++ bound_no_variable s (line_of e) e
+      else value_unsuited s (line_of e) (asked_by m) t
 
   -- ---- the rules that are broken
 
   abbrev mutual
     pub faults : Asked → Expression ℕ → Faults
-    faults asked (Int l digits) = past_64_bits l (number_of digits) ++ number_past_its_type l (pos (number_of digits)) (int_type asked (number_of digits))
-    faults asked (Typed l k literal) = truth_of_another_kind l k literal ++ literal_past_its_kind l k literal
+    faults asked (Int l digits) = int_faults l digits (int_type asked digits)
+    faults asked (Typed l k literal) = typed_literal_faults l k literal
     faults asked (Time l text) = time_past_32_bits l text
     faults asked (True l) = []
     faults asked (False l) = []
@@ -289,7 +289,7 @@ module _ (s : Scope) where
     faults asked (Now l) = []
     faults asked (Paren l e) = faults asked e
     faults asked (Not l e) = faults Anything e ++ operand_unsuited (line_of e) takes_not (type_of Anything e)
-    faults asked (Negate l (Int k digits)) = past_64_bits l (number_of digits) ++ number_past_its_type l (neg_ℤ (pos (number_of digits))) (negative_type asked)
+    faults asked (Negate l (Int k digits)) = negative_faults l digits (negative_type asked)
     faults asked (Negate l e) =
         let inner = front_asked (is_untyped e) (number_asked asked) in
         faults inner e ++ operand_unsuited (line_of e) takes_minus (type_of inner e)
@@ -324,8 +324,8 @@ module _ (s : Scope) where
     -- each argument with the parameter that it is for
     pub argument_faults : List Matched → Arguments ℕ → Faults
     argument_faults ms no_arguments = []
-    argument_faults ms (argument_then (Positional e) xs) = faults (asked_by (first_match ms)) e ++ given_unsuited (first_match ms) e ++ argument_faults (later_matches ms) xs
-    argument_faults ms (argument_then (Input l name e) xs) = faults (asked_by (first_match ms)) e ++ given_unsuited (first_match ms) e ++ argument_faults (later_matches ms) xs
+    argument_faults ms (argument_then (Positional e) xs) = faults (asked_by (first_match ms)) e ++ given_unsuited (first_match ms) e (type_of (asked_by (first_match ms)) e) ++ argument_faults (later_matches ms) xs
+    argument_faults ms (argument_then (Input l name e) xs) = faults (asked_by (first_match ms)) e ++ given_unsuited (first_match ms) e (type_of (asked_by (first_match ms)) e) ++ argument_faults (later_matches ms) xs
     argument_faults ms (argument_then (Output l name k r ss) xs) =
         root_faults s false r ss
         ++ along_faults (root_line r) false (root_standing s r ss) ss
@@ -345,7 +345,7 @@ module _ (s : Scope) where
   qualified_target (an_enumeration n) name = part_target (part_of s (an_enumeration n) false name)
   qualified_target _ name = target.Nothing
 
-  abbrev pub whole_target : Root ℕ → Selectors ℕ → Target
+  unfoldable pub whole_target : Root ℕ → Selectors ℕ → Target
   whole_target (root.Name l name) no_selectors = value_target (sought s false name)
   whole_target (root.Name l name) (selector_then (Field k n) no_selectors) = qualified_target (root_standing s (root.Name l name) (selector_then (Field k n) no_selectors)) n
   whole_target r ss = target.Nothing
@@ -354,16 +354,22 @@ module _ (s : Scope) where
   called_note l (Some c) m = note l (Some (type.Elementary c.1)) target.Conversion
   called_note l None m = note l (root_meant_type m) (meant_target m)
 
-  abbrev pub typed_root : Bool → Root ℕ → Selectors ℕ → Root Note
+  unfoldable pub typed_root : Bool → Root ℕ → Selectors ℕ → Root Note
   typed_root called (root.This l) ss = root.This (note l (standing_type (root_standing s (root.This l) ss)) target.Nothing)
   typed_root called (root.Super l) ss = root.Super (note l (standing_type (root_standing s (root.Super l) ss)) target.Nothing)
   typed_root called (root.Name l name) no_selectors = root.Name (if called then called_note l (conversion_named name) (sought s true name) else qualifier_note l no_qualifier (sought s false name)) name
   typed_root called (root.Name l name) (selector_then (Field k n) ss) = root.Name (qualifier_note l (dot_qualifier s name) (sought s false name)) name
   typed_root called (root.Name l name) ss = root.Name (qualifier_note l no_qualifier (sought s false name)) name
 
+  unfoldable pub part_note : Bool → Standing → ℕ → List ℕ → Note
+  part_note called b l n = note l (part_type (part_of s b called n)) (part_target (part_of s b called n))
+
+  unfoldable pub standing_note : ℕ → Standing → Note
+  standing_note l b = note l (standing_type b) target.Nothing
+
   abbrev mutual
     pub typed : Asked → Expression ℕ → Expression Note
-    typed asked (Int l digits) = Int (note l (int_type asked (number_of digits)) target.Nothing) digits
+    typed asked (Int l digits) = Int (note l (int_type asked digits) target.Nothing) digits
     typed asked (Typed l k literal) = Typed (note l (typed_literal_type k literal) target.Nothing) k literal
     typed asked (Time l text) = Time (note l (Some time) target.Nothing) text
     typed asked (True l) = True (note l (Some boolean) target.Nothing)
@@ -404,9 +410,9 @@ module _ (s : Scope) where
     typed_along called b (selector_then x ss) = selector_then (typed_selector (called && is_last ss) b x) (typed_along called (selected s b x) ss)
 
     pub typed_selector : Bool → Standing → Selector ℕ → Selector Note
-    typed_selector called b (Field l n) = Field (note l (part_type (part_of s b called n)) (part_target (part_of s b called n))) n
-    typed_selector called b (Index l es) = Index (note l (standing_type (selected s b (Index l es))) target.Nothing) (typed_indices es)
-    typed_selector called b (tree.Target l) = tree.Target (note l (standing_type (selected s b (tree.Target l))) target.Nothing)
+    typed_selector called b (Field l n) = Field (part_note called b l n) n
+    typed_selector called b (Index l es) = Index (standing_note l (selected s b (Index l es))) (typed_indices es)
+    typed_selector called b (tree.Target l) = tree.Target (standing_note l (selected s b (tree.Target l)))
 
     pub typed_arguments : List Matched → Arguments ℕ → Arguments Note
     typed_arguments ms no_arguments = no_arguments

@@ -212,7 +212,7 @@ arithmetic_type o (Some t) (Some u) = option_map type.Elementary (operand_kind o
 arithmetic_type o _ _ = None
 
 -- the type of an operation, from those of its operands
-abbrev pub operation_type : Operator → Option StType → Option StType → Option StType
+unfoldable pub operation_type : Operator → Option StType → Option StType → Option StType
 operation_type o t u = if gives_bool o then Some boolean else arithmetic_type o t u
 
 -- NOT takes BOOL and bit strings
@@ -223,7 +223,7 @@ takes_not e = is_bool e || is_bit_string e
 abbrev pub takes_minus : Elem → Bool
 takes_minus e = is_signed e
 
-abbrev pub unary_type : (Elem → Bool) → Option StType → Option StType
+unfoldable pub unary_type : (Elem → Bool) → Option StType → Option StType
 unary_type takes None = None
 unary_type takes (Some t) = if is_elementary takes t then Some t else None
 
@@ -240,7 +240,7 @@ module _ {A : Type 0} (classes : List (ClassDecl A)) (interfaces : List (Interfa
   converts _ _ = false
 
   -- a value of the first type may be assigned to a variable of the second
-  abbrev pub is_assignable : StType → StType → Bool
+  unfoldable pub is_assignable : StType → StType → Bool
   is_assignable t u = same_type t u || converts t u
 
   abbrev pub narrower_instance : StType → StType → Bool
@@ -248,5 +248,5 @@ module _ {A : Type 0} (classes : List (ClassDecl A)) (interfaces : List (Interfa
   narrower_instance _ _ = false
 
   -- a place of the first type may be bound to an in-out of the second: without any conversion
-  abbrev pub is_bindable : StType → StType → Bool
+  unfoldable pub is_bindable : StType → StType → Bool
   is_bindable t u = same_type t u || narrower_instance t u

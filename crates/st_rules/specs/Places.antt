@@ -175,7 +175,7 @@ module _ (s : Scope) where
   qualified_standing no_qualifier name = name_standing name
 
   -- what a place begins with; the name of an enumeration stands before `.` alone
-  abbrev pub root_standing : Root ℕ → Selectors ℕ → Standing
+  unfoldable pub root_standing : Root ℕ → Selectors ℕ → Standing
   root_standing (root.This l) ss = this_standing s.class
   root_standing (root.Super l) ss = super_standing s.class
   root_standing (root.Name l name) (selector_then (Field k n) ss) = qualified_standing (dot_qualifier s name) name
@@ -196,7 +196,7 @@ module _ (s : Scope) where
   value_part _ called name = None
 
   -- what a name means behind what stands there, where a call stands or not
-  abbrev pub part_of : Standing → Bool → List ℕ → Option Part
+  unfoldable pub part_of : Standing → Bool → List ℕ → Option Part
   part_of untold called name = None
   part_of (a_value t) called name = value_part t called name
   part_of (own_instance c) called name = instance_part c called name
@@ -204,7 +204,7 @@ module _ (s : Scope) where
   part_of (an_enumeration n) called name = option_map (a_value_of n) (value_of s n name)
 
   -- what stands behind a selector
-  abbrev pub selected : Standing → Selector ℕ → Standing
+  unfoldable pub selected : Standing → Selector ℕ → Standing
   selected b (Field l name) = standing_of (part_type (part_of b false name))
   selected b (Index l es) = standing_of (indexed (count_expressions es) (standing_type b))
   selected b (tree.Target l) = dereferenced b
@@ -281,28 +281,28 @@ module _ (s : Scope) where
   qualified_faults line no_qualifier name = name_faults line false (sought s false name)
 
   -- the rules of a root: a call stands behind it or not
-  abbrev pub root_faults : Bool → Root ℕ → Selectors ℕ → Faults
+  unfoldable pub root_faults : Bool → Root ℕ → Selectors ℕ → Faults
   root_faults called (root.This l) ss = instance_outside_a_class l
   root_faults called (root.Super l) ss = instance_outside_a_class l
   root_faults called (root.Name l name) no_selectors = name_faults l called (sought s called name)
   root_faults called (root.Name l name) (selector_then (Field k n) ss) = qualified_faults l (dot_qualifier s name) name
   root_faults called (root.Name l name) ss = name_faults l false (sought s false name)
 
-  abbrev pub part_faults : ℕ → Standing → Option Part → Faults
+  unfoldable pub part_faults : ℕ → Standing → Option Part → Faults
   part_faults line b p = part_not_found line b p ++ part_out_of_access line p
 
   -- `line` is that of the place's first token
-  abbrev pub selector_faults : ℕ → Bool → Standing → Selector ℕ → Faults
+  unfoldable pub selector_faults : ℕ → Bool → Standing → Selector ℕ → Faults
   selector_faults line called b (Field l name) = part_faults l b (part_of b called name)
   selector_faults line called b (Index l es) = super_without_base line b ++ indices_on_no_array line (count_expressions es) (standing_type b)
   selector_faults line called b (tree.Target l) = dereference_of_no_reference line b
 
   -- more than 64 selectors
-  abbrev pub too_many_selectors : ℕ → Selectors ℕ → Faults
+  unfoldable pub too_many_selectors : ℕ → Selectors ℕ → Faults
   too_many_selectors line ss = when (nat_lt 64 (count_selectors ss)) E16 line
 
   -- the rules of a place as a whole, where no call stands behind it
-  abbrev pub whole_faults : Root ℕ → Selectors ℕ → Faults
+  unfoldable pub whole_faults : Root ℕ → Selectors ℕ → Faults
   whole_faults r ss = super_without_base (root_line r) (placed r ss) ++ too_many_selectors (root_line r) ss
 
   -- ---- E08: what is no target
@@ -349,5 +349,5 @@ module _ (s : Scope) where
   abbrev pub instance_as_target : ℕ → Root ℕ → Selectors ℕ → Faults
   instance_as_target line r ss = when (holds_instances_if_told (place_type r ss)) E08 line
 
-  abbrev pub target_faults : Root ℕ → Selectors ℕ → Faults
+  unfoldable pub target_faults : Root ℕ → Selectors ℕ → Faults
   target_faults r ss = fixed_target (root_line r) r ss ++ instance_as_target (root_line r) r ss

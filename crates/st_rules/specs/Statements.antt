@@ -18,7 +18,7 @@ use Rattle.st_rules.specs.declared.asked.Asked.{Asked}
 use Rattle.st_rules.specs.declared.asked.Asked.TheVariants.{Anything, Wanted}
 use Rattle.st_rules.specs.Faults.{Faults, at, when}
 use Rattle.st_rules.specs.Kinds.{boolean, is_number, is_elementary, is_reference, is_instance, is_enumeration}
-use Rattle.st_rules.specs.Literals.{asked_of, int_type, negative_type, past_64_bits, number_past_its_type, typed_literal_type, literal_number, truth_of_another_kind, literal_past_its_kind}
+use Rattle.st_rules.specs.Literals.{int_faults, negative_faults, typed_literal_faults, asked_of, int_type, negative_type, past_64_bits, number_past_its_type, typed_literal_type, literal_number, truth_of_another_kind, literal_past_its_kind}
 use Rattle.st_rules.specs.Scope.{Scope, Meant, a_variable, an_enumerator, Qualifier, values_of, of_untold, no_qualifier, sought, type_qualifier, dot_qualifier}
 use Rattle.st_rules.specs.Places.{root_line, root_standing, place_type, name_faults, root_faults, whole_faults, too_many_selectors, target_faults}
 use Rattle.st_rules.specs.Calls.{callee, call_type, callee_faults, is_on_super, heads, call_matches, value_unsuited}
@@ -141,7 +141,7 @@ module _ (s : Scope) where
   field_not_found line name_line no_qualifier name = at E05 line
 
   abbrev pub end_type : Asked → LabelEnd ℕ → Option StType
-  end_type asked (label.Int l digits) = int_type asked (number_of digits)
+  end_type asked (label.Int l digits) = int_type asked digits
   end_type asked (label.Negative l digits) = negative_type asked
   end_type asked (label.Typed l k literal) = typed_literal_type k literal
   end_type asked (label.Name l name) = control_type (sought s false name)
@@ -149,9 +149,9 @@ module _ (s : Scope) where
   end_type asked (label.Field l t k name) = enumerator_type s (dot_qualifier s t) name
 
   abbrev pub end_faults : Asked → LabelEnd ℕ → Faults
-  end_faults asked (label.Int l digits) = past_64_bits l (number_of digits) ++ number_past_its_type l (pos (number_of digits)) (int_type asked (number_of digits))
-  end_faults asked (label.Negative l digits) = past_64_bits l (number_of digits) ++ number_past_its_type l (neg_ℤ (pos (number_of digits))) (negative_type asked)
-  end_faults asked (label.Typed l k literal) = truth_of_another_kind l k literal ++ literal_past_its_kind l k literal
+  end_faults asked (label.Int l digits) = int_faults l digits (int_type asked digits)
+  end_faults asked (label.Negative l digits) = negative_faults l digits (negative_type asked)
+  end_faults asked (label.Typed l k literal) = typed_literal_faults l k literal
   end_faults asked (label.Name l name) = name_faults s l false (sought s false name) ++ name_of_no_constant l (sought s false name)
   end_faults asked (label.Enumerator l t k name) = enumerator_not_found s l k (type_qualifier s t) name
   end_faults asked (label.Field l t k name) = field_not_found l k (dot_qualifier s t) name
@@ -264,7 +264,7 @@ module _ (s : Scope) where
 
   -- a label has its value in its note
   abbrev pub typed_end : Asked → LabelEnd ℕ → LabelEnd Note
-  typed_end asked (label.Int l digits) = label.Int (note l (int_type asked (number_of digits)) (target.Constant (pos (number_of digits)))) digits
+  typed_end asked (label.Int l digits) = label.Int (note l (int_type asked digits) (target.Constant (pos (number_of digits)))) digits
   typed_end asked (label.Negative l digits) = label.Negative (note l (negative_type asked) (target.Constant (neg_ℤ (pos (number_of digits))))) digits
   typed_end asked (label.Typed l k literal) = label.Typed (note l (typed_literal_type k literal) (target.Constant (literal_number literal))) k literal
   typed_end asked (label.Name l name) = label.Name (note l (control_type (sought s false name)) (value_target (sought s false name))) name
