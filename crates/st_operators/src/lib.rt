@@ -4,8 +4,9 @@
 
 mod kinds;
 mod literals;
-
 mod operators;
+#[cfg(test)]
+mod tests;
 mod types;
 
 pub use kinds::{
@@ -13,9 +14,11 @@ pub use kinds::{
     takes_minus, takes_not,
 };
 pub use literals::{
-    duration_fault, int_fault, int_type, literal_fault, literal_type, negative_fault, negative_type, null_type, number_asked,
+    asked_of, duration_fault, int_fault, int_type, literal_fault, literal_type, negative_fault,
+    negative_type, null_type, number_asked,
 };
 pub use operators::{
-    index_fault, negated_fault, negated_type, noted_fault, noted_type, operands_fault, operation_type,
+    index_fault, negated_fault, negated_type, noted_fault, noted_type, operands_fault,
+    operation_type,
 };
 pub use types::{element_type, holds_instances, is_reference, suits_operator};

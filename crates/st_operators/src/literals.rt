@@ -31,8 +31,9 @@ fn is_bit(digits: &str) -> bool
 }
 
 /// The type that an int takes; nothing where it cannot be told.
+#[tactic(auto, unfolding(st_rules::specs::Literals::int_type))]
 pub fn int_type(asked: &Asked, digits: &str) -> Option<StType>
-    ensures { result ≡ literals.int_type asked.now (number.number_of digits.now) }
+    ensures { result ≡ literals.int_type asked.now digits.now }
 {
     match asked {
         Asked::Anything => Some(StType::Elementary(Elem::Dint)),
@@ -57,6 +58,7 @@ fn int_taken(t: &StType, bit: bool) -> StType
 }
 
 /// The type that an int with its sign takes; nothing where it cannot be told.
+#[tactic(auto, unfolding(st_rules::specs::Literals::negative_type))]
 pub fn negative_type(asked: &Asked) -> Option<StType>
     ensures { result ≡ literals.negative_type asked.now }
 {
@@ -73,7 +75,19 @@ pub fn negative_type(asked: &Asked) -> Option<StType>
     }
 }
 
+/// What a place of a type asks for.
+#[tactic(auto, unfolding(st_rules::specs::Literals::asked_of))]
+pub fn asked_of(t: Option<StType>) -> Asked
+    ensures { result ≡ literals.asked_of t }
+{
+    match t {
+        Some(t) => Asked::Wanted(t),
+        None => Asked::Untold,
+    }
+}
+
 /// What an untyped operation asks its operands for.
+#[tactic(auto, unfolding(st_rules::specs::Literals::number_asked))]
 pub fn number_asked(asked: &Asked) -> Asked
     ensures { result ≡ literals.number_asked asked.now }
 {
@@ -91,6 +105,7 @@ pub fn number_asked(asked: &Asked) -> Asked
 }
 
 /// The type that NULL takes.
+#[tactic(auto, unfolding(st_rules::specs::Literals::null_type))]
 pub fn null_type(asked: &Asked) -> StType
     ensures { result ≡ literals.null_type asked.now }
 {
@@ -120,8 +135,9 @@ fn number_fault(line: u32, v: i128, t: &Option<StType>) -> Option<(Code, u32)>
 }
 
 /// An int that has more than 64 bits, or does not fit its type.
+#[tactic(auto, using(crate::proofs::LiteralLaws::within_64_bits), unfolding(st_rules::specs::Literals::int_faults))]
 pub fn int_fault(line: u32, digits: &str, t: &Option<StType>) -> Option<(Code, u32)>
-    ensures { let n = number.number_of digits.now in result ≡ faults.least (literals.past_64_bits line n ++ literals.number_past_its_type line (pos n) t.now) }
+    ensures { result ≡ faults.least (literals.int_faults line digits.now t.now) }
 {
     match number_of(digits) {
         Some(n) => number_fault(line, i128::from(n), t),
@@ -129,12 +145,35 @@ pub fn int_fault(line: u32, digits: &str, t: &Option<StType>) -> Option<(Code, u
     }
 }
 
+/// The number below zero.
+fn negated(n: u64) -> i128
+    ensures { result ≡ neg_ℤ (pos n) }
+{
+    -i128::from(n)
+}
+
+fn negative_fits(t: &StType, n: u64) -> bool
+    ensures { result ≡ literals.fits_type t.now (neg_ℤ (pos n)) }
+{
+    fits_type(t, -i128::from(n))
+}
+
+fn negative_number_fault(line: u32, n: u64, t: &Option<StType>) -> Option<(Code, u32)>
+    ensures { result ≡ faults.least (literals.number_past_its_type line (neg_ℤ (pos n)) t.now) }
+{
+    match t {
+        Some(t) => when(!negative_fits(t, n), Code::E13, line),
+        None => None,
+    }
+}
+
 /// The same for an int with its sign.
+#[tactic(auto, using(crate::proofs::LiteralLaws::within_64_bits), unfolding(st_rules::specs::Literals::negative_faults))]
 pub fn negative_fault(line: u32, digits: &str, t: &Option<StType>) -> Option<(Code, u32)>
-    ensures { let n = number.number_of digits.now in result ≡ faults.least (literals.past_64_bits line n ++ literals.number_past_its_type line (neg_ℤ (pos n)) t.now) }
+    ensures { result ≡ faults.least (literals.negative_faults line digits.now t.now) }
 {
     match number_of(digits) {
-        Some(n) => number_fault(line, -i128::from(n), t),
+        Some(n) => negative_number_fault(line, n, t),
         None => at(Code::E13, line),
     }
 }
@@ -149,6 +188,7 @@ fn is_wrong_truth(e: Elem, literal: &Literal) -> bool
 }
 
 /// The number of a literal behind its type; nothing where it has more than 64 bits.
+#[tactic(auto, using(crate::proofs::LiteralLaws::past_negative))]
 pub fn literal_number(literal: &Literal) -> Option<i128>
     ensures { MatchOption result ((e : Kind) → literals.holds e (literals.literal_number literal.now) ≡ false) (λ v. v ≡ literals.literal_number literal.now) }
 {
@@ -158,7 +198,7 @@ pub fn literal_number(literal: &Literal) -> Option<i128>
             None => None,
         },
         Literal::Negative(digits) => match number_of(digits.as_str()) {
-            Some(n) => Some(-i128::from(n)),
+            Some(n) => Some(negated(n)),
             None => None,
         },
         Literal::True => Some(1),
@@ -167,6 +207,7 @@ pub fn literal_number(literal: &Literal) -> Option<i128>
 }
 
 /// The type of a literal behind its type; nothing for a truth value of another kind than BOOL.
+#[tactic(auto, unfolding(st_rules::specs::Literals::typed_literal_type))]
 pub fn literal_type(e: Elem, literal: &Literal) -> Option<StType>
     ensures { result ≡ literals.typed_literal_type e literal.now }
 {
@@ -187,8 +228,9 @@ fn literal_fits(e: Elem, literal: &Literal) -> bool
 }
 
 /// A literal behind its type that is of another kind, or does not fit.
+#[tactic(auto, unfolding(st_rules::specs::Literals::typed_literal_faults))]
 pub fn literal_fault(line: u32, e: Elem, literal: &Literal) -> Option<(Code, u32)>
-    ensures { result ≡ faults.least (literals.truth_of_another_kind line e literal.now ++ literals.literal_past_its_kind line e literal.now) }
+    ensures { result ≡ faults.least (literals.typed_literal_faults line e literal.now) }
 {
     if is_wrong_truth(e, literal) {
         at(Code::E07, line)
@@ -198,6 +240,7 @@ pub fn literal_fault(line: u32, e: Elem, literal: &Literal) -> Option<(Code, u32
 }
 
 /// A duration that has more than 32 bits.
+#[tactic(auto, unfolding(st_rules::specs::Literals::time_past_32_bits))]
 pub fn duration_fault(line: u32, text: &str) -> Option<(Code, u32)>
     ensures { result ≡ faults.least (literals.time_past_32_bits line text.now) }
 {

@@ -13,6 +13,7 @@ use st_tree::Operator;
 use st_types::{Elem, StType};
 
 /// The type of an operation, from those of its operands; nothing where it cannot be told.
+#[tactic(auto, unfolding(st_rules::specs::Kinds::operation_type))]
 pub fn operation_type(o: Operator, t: &Option<StType>, u: &Option<StType>) -> Option<StType>
     ensures { result ≡ kinds.operation_type o t.now u.now }
 {
@@ -29,7 +30,13 @@ pub fn operation_type(o: Operator, t: &Option<StType>, u: &Option<StType>) -> Op
 }
 
 /// An operator that does not take its operands.
-pub fn operands_fault(line: u32, o: Operator, t: &Option<StType>, u: &Option<StType>) -> Option<(Code, u32)>
+#[tactic(auto, unfolding(st_rules::specs::Expressions::operands_unsuited))]
+pub fn operands_fault(
+    line: u32,
+    o: Operator,
+    t: &Option<StType>,
+    u: &Option<StType>,
+) -> Option<(Code, u32)>
     ensures { result ≡ faults.least (expressions.operands_unsuited line o t.now u.now) }
 {
     match (t, u) {
@@ -39,26 +46,37 @@ pub fn operands_fault(line: u32, o: Operator, t: &Option<StType>, u: &Option<StT
 }
 
 /// The type of NOT.
+#[tactic(auto, unfolding(st_rules::specs::Kinds::unary_type))]
 pub fn noted_type(t: &Option<StType>) -> Option<StType>
     ensures { result ≡ kinds.unary_type kinds.takes_not t.now }
 {
     match t {
-        Some(StType::Elementary(e)) => if takes_not(*e) { Some(StType::Elementary(*e)) } else { None },
+        Some(StType::Elementary(e)) => if takes_not(*e) {
+            Some(StType::Elementary(*e))
+        } else {
+            None
+        },
         _ => None,
     }
 }
 
 /// The type of a sign before what is no int.
+#[tactic(auto, unfolding(st_rules::specs::Kinds::unary_type))]
 pub fn negated_type(t: &Option<StType>) -> Option<StType>
     ensures { result ≡ kinds.unary_type kinds.takes_minus t.now }
 {
     match t {
-        Some(StType::Elementary(e)) => if takes_minus(*e) { Some(StType::Elementary(*e)) } else { None },
+        Some(StType::Elementary(e)) => if takes_minus(*e) {
+            Some(StType::Elementary(*e))
+        } else {
+            None
+        },
         _ => None,
     }
 }
 
 /// NOT of what is neither BOOL nor a bit string.
+#[tactic(auto, unfolding(st_rules::specs::Expressions::operand_unsuited))]
 pub fn noted_fault(line: u32, t: &Option<StType>) -> Option<(Code, u32)>
     ensures { result ≡ faults.least (expressions.operand_unsuited line kinds.takes_not t.now) }
 {
@@ -70,6 +88,7 @@ pub fn noted_fault(line: u32, t: &Option<StType>) -> Option<(Code, u32)>
 }
 
 /// A sign before what is no signed integer.
+#[tactic(auto, unfolding(st_rules::specs::Expressions::operand_unsuited))]
 pub fn negated_fault(line: u32, t: &Option<StType>) -> Option<(Code, u32)>
     ensures { result ≡ faults.least (expressions.operand_unsuited line kinds.takes_minus t.now) }
 {
@@ -81,6 +100,7 @@ pub fn negated_fault(line: u32, t: &Option<StType>) -> Option<(Code, u32)>
 }
 
 /// An index that is no integer and no bit string.
+#[tactic(auto, unfolding(st_rules::specs::Expressions::index_unsuited))]
 pub fn index_fault(line: u32, t: &Option<StType>) -> Option<(Code, u32)>
     ensures { result ≡ faults.least (expressions.index_unsuited line t.now) }
 {

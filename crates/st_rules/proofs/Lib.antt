@@ -8,4 +8,5 @@ pub mod ClassLaws
 pub mod InterfaceLaws
 pub mod SignatureLaws
 mod Examples
+pub mod RowLaws
 mod ExpressionExamples

@@ -1,5 +1,5 @@
 -- The type of an expression, the rules that it breaks, and its typed tree (IEC 61131-3:2013, 7.3.2).
-use Rattle.std.specs.Prelude.{ℕ, suc, ◌+◌, nat_lt, pos, neg_ℤ, Bool, true, false, not, ◌&&◌, if◌then◌else◌, List, [], ◌++◌, Option, Some, None, option_map, option_and_then}
+use Rattle.std.specs.Prelude.{ℕ, suc, ◌+◌, nat_lt, Bool, true, false, not, ◌&&◌, if◌then◌else◌, List, [], ◌++◌, Option, Some, None, option_map, option_and_then}
 use Rattle.std.specs.Option.{is_none, is_some}
 use Rattle.plc_text.specs.declared.code.Code.TheVariants.{E05, E07, E16}
 use Rattle.st_types.specs.declared.elem.Elem.{Elem}
@@ -13,12 +13,11 @@ use Rattle.st_tree.specs.declared.program.Target.{Target}
 use Rattle.st_tree.specs.declared.program.Target.TheVariants as target
 use Rattle.st_tree.specs.Expression.{Expression, Int, Typed, Time, True, False, Null, Place, Call, Enumerator, Ref, Now, Paren, Not, Negate, Chain, Expressions, no_expressions, expression_then, Selector, Field, Index, Selectors, no_selectors, selector_then, Argument, Positional, Input, Output, Arguments, no_arguments, argument_then, Tails, no_tails, tail_then}
 use Rattle.st_tree.specs.Expression as tree
-use Rattle.st_tree.specs.Number.{number_of}
 use Rattle.st_rules.specs.declared.asked.Asked.{Asked}
 use Rattle.st_rules.specs.declared.asked.Asked.TheVariants.{Anything}
 use Rattle.st_rules.specs.Faults.{Faults, at, when}
 use Rattle.st_rules.specs.Kinds.{boolean, time, is_number, is_elementary, is_arithmetic, operation_type, suits_operator, takes_not, takes_minus, unary_type}
-use Rattle.st_rules.specs.Literals.{int_faults, negative_faults, typed_literal_faults, asked_of, number_asked, int_type, negative_type, past_64_bits, number_past_its_type, typed_literal_type, truth_of_another_kind, literal_past_its_kind, time_past_32_bits, null_type}
+use Rattle.st_rules.specs.Literals.{int_faults, negative_faults, typed_literal_faults, asked_of, number_asked, int_type, negative_type, typed_literal_type, time_past_32_bits, null_type}
 use Rattle.st_rules.specs.Scope.{Scope, Meant, a_variable, a_function, an_enumerator, Qualifier, values_of, of_untold, no_qualifier, sought, type_qualifier, dot_qualifier, value_of}
 use Rattle.st_rules.specs.Scope as scope
 use Rattle.st_rules.specs.Places.{Standing, an_enumeration, standing_type, Part, a_field, a_member, a_prototype, a_value_of, part_type, part_of, meant_type, is_last, root_line, root_standing, place_type, selected, root_faults, selector_faults, whole_faults, too_many_selectors, target_faults}

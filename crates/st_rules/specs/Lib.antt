@@ -16,3 +16,4 @@ pub mod Places
 pub mod Calls
 pub mod Expressions
 pub mod Statements
+pub mod Rows

@@ -18,7 +18,7 @@ use Rattle.st_rules.specs.declared.asked.Asked.{Asked}
 use Rattle.st_rules.specs.declared.asked.Asked.TheVariants.{Anything, Wanted}
 use Rattle.st_rules.specs.Faults.{Faults, at, when}
 use Rattle.st_rules.specs.Kinds.{boolean, is_number, is_elementary, is_reference, is_instance, is_enumeration}
-use Rattle.st_rules.specs.Literals.{int_faults, negative_faults, typed_literal_faults, asked_of, int_type, negative_type, past_64_bits, number_past_its_type, typed_literal_type, literal_number, truth_of_another_kind, literal_past_its_kind}
+use Rattle.st_rules.specs.Literals.{int_faults, negative_faults, typed_literal_faults, asked_of, int_type, negative_type, typed_literal_type, literal_number}
 use Rattle.st_rules.specs.Scope.{Scope, Meant, a_variable, an_enumerator, Qualifier, values_of, of_untold, no_qualifier, sought, type_qualifier, dot_qualifier}
 use Rattle.st_rules.specs.Places.{root_line, root_standing, place_type, name_faults, root_faults, whole_faults, too_many_selectors, target_faults}
 use Rattle.st_rules.specs.Calls.{callee, call_type, callee_faults, is_on_super, heads, call_matches, value_unsuited}

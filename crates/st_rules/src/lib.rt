@@ -8,6 +8,7 @@ mod ids;
 mod laws;
 mod modifiers;
 mod names;
+mod rows;
 mod signature;
 #[cfg(test)]
 mod tests;
@@ -23,6 +24,7 @@ pub use names::{
     DeclaredClass, DeclaredField, DeclaredGlobal, DeclaredNames, DeclaredRoutine, DeclaredType,
     DeclaredVariable, TypeParts,
 };
+pub use rows::row_laws;
 pub use signature::{
     Parameter, ResultType, Signature, Signatures, differs_from_hook, is_hook, same_signature,
 };
