@@ -56,9 +56,12 @@ pub data Meant : Type 0 where
 -- ---- variables by name
 
 -- the first of the name
+abbrev pub first_named : {X : Type 0} → (X → List ℕ) → List ℕ → List X → Option X
+first_named name_of name [] = None
+first_named name_of name (x ∷ xs) = if same (name_of x) name then Some x else first_named name_of name xs
+
 abbrev pub variable_named : List ℕ → List DeclaredVariable → Option DeclaredVariable
-variable_named name [] = None
-variable_named name (v ∷ vs) = if same v.name name then Some v else variable_named name vs
+variable_named name vs = first_named (λ v. v.name) name vs
 
 abbrev pub is_external : SectionSort → Bool
 is_external sort.External = true
@@ -99,8 +102,7 @@ global_meaning (global.Function k r) = a_function k r
 
 -- the first of the name
 abbrev pub global_named : List ℕ → List DeclaredGlobal → Option Meant
-global_named name [] = None
-global_named name (g ∷ gs) = if same (global_name g) name then Some (global_meaning g) else global_named name gs
+global_named name gs = option_map global_meaning (first_named global_name name gs)
 
 abbrev pub is_global_variable : List ℕ → DeclaredGlobal → Bool
 is_global_variable name (global.Variable v) = same v.name name
@@ -132,8 +134,7 @@ only_enumerator _ = None
 
 -- the first of the name among entries of TYPE, classes and interfaces
 abbrev pub type_named : List ℕ → List DeclaredType → Option DeclaredType
-type_named name [] = None
-type_named name (t ∷ ts) = if same t.name name then Some t else type_named name ts
+type_named name ts = first_named (λ t. t.name) name ts
 
 -- what a type's name qualifies
 pub data Qualifier : Type 0 where
