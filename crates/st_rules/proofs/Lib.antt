@@ -9,3 +9,5 @@ pub mod ClassLaws
 pub mod InterfaceLaws
 pub mod SignatureLaws
 mod Examples
+pub mod RowLaws
+mod ExpressionExamples

@@ -9,3 +9,11 @@ pub mod Types
 pub mod Signatures
 pub mod ClassRules
 pub mod InterfaceRules
+pub mod Scope
+pub mod Kinds
+pub mod Literals
+pub mod Places
+pub mod Calls
+pub mod Expressions
+pub mod Statements
+pub mod Rows

@@ -2,15 +2,19 @@
 //! declaration breaks (IEC 61131-3:2013, 6.5 and 6.6). The checker, its tables and the meaning of programs stand on these words.
 #![tactic(auto)]
 
+mod asked;
 mod faults;
 mod ids;
 mod laws;
 mod methods;
 mod modifiers;
+mod names;
+mod rows;
 mod signature;
 #[cfg(test)]
 mod tests;
 
+pub use asked::Asked;
 pub use faults::{at, earlier, when};
 pub use ids::{MethodId, PrototypeId};
 pub use laws::{class_laws, conformance_laws, fault_laws, interface_laws, signature_laws};
@@ -18,6 +22,11 @@ pub use methods::{has_in_outs, has_statements};
 pub use modifiers::{
     Access, is_abstract, is_constant, is_final, is_override, method_access, written_access,
 };
+pub use names::{
+    DeclaredClass, DeclaredField, DeclaredGlobal, DeclaredNames, DeclaredRoutine, DeclaredType,
+    DeclaredVariable, TypeParts,
+};
+pub use rows::row_laws;
 pub use signature::{
     Parameter, ResultType, Signature, Signatures, differs_from_hook, is_hook, same_signature,
 };

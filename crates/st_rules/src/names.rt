@@ -1,0 +1,97 @@
+//! What a unit says of the names that it declares: their sorts, types and numbers. The checker of declarations tells it, and the rules of
+//! expressions and statements look names up in it.
+
+use crate::modifiers::Access;
+use crate::signature::ResultType;
+use plc_text::{Items, Text};
+use st_tree::{ClassSort, SectionSort, Target};
+use st_types::StType;
+
+/// A variable or a constant, as it is declared.
+#[derive(Drop)]
+pub struct DeclaredVariable {
+    /// In upper case.
+    pub name: Text,
+    pub sort: SectionSort,
+    pub constant: bool,
+    /// From where it may be used, where it is one of a class.
+    pub access: Access,
+    /// Whether it has an address of an input (`%I`).
+    pub located_input: bool,
+    /// None where the type cannot be told.
+    pub kind: Option<StType>,
+    /// What a use of the name means: of a constant its value.
+    pub target: Target,
+}
+
+/// A function, a method, or a method of an interface, as it is declared.
+#[derive(Drop)]
+pub struct DeclaredRoutine {
+    /// In upper case.
+    pub name: Text,
+    pub access: Access,
+    pub abstract_method: bool,
+    pub outcome: ResultType,
+    /// The inputs, outputs and in-outs, in the order of the text.
+    pub parameters: Items<DeclaredVariable>,
+}
+
+/// A class or a function block: what it declares itself, in the order of the text.
+#[derive(Drop)]
+pub struct DeclaredClass {
+    pub sort: ClassSort,
+    /// Constants, in-outs, temporary variables and externals among them.
+    pub variables: Items<DeclaredVariable>,
+    pub methods: Items<DeclaredRoutine>,
+}
+
+/// A field of a structure.
+#[derive(Drop)]
+pub struct DeclaredField {
+    /// In upper case.
+    pub name: Text,
+    /// None where the type cannot be told.
+    pub kind: Option<StType>,
+}
+
+/// What an entry of TYPE has.
+#[derive(Drop)]
+pub enum TypeParts {
+    /// It is another name for a type.
+    Nothing,
+    /// The names of an enumeration's values.
+    Values(Items<Text>),
+    /// The fields of a structure.
+    Fields(Items<DeclaredField>),
+}
+
+/// A name that serves in a type's place: an entry of TYPE, a class or an interface.
+#[derive(Drop)]
+pub struct DeclaredType {
+    /// In upper case.
+    pub name: Text,
+    /// None where the type cannot be told.
+    pub kind: Option<StType>,
+}
+
+/// A global or a function.
+#[derive(Drop)]
+pub enum DeclaredGlobal {
+    Variable(DeclaredVariable),
+    /// With its number among the functions.
+    Function(u32, DeclaredRoutine),
+}
+
+/// All that a unit declares, each in the order of the text.
+#[derive(Drop)]
+pub struct DeclaredNames {
+    /// Entries of TYPE, classes and interfaces.
+    pub types: Items<DeclaredType>,
+    /// By the number of an entry of TYPE.
+    pub parts: Items<TypeParts>,
+    /// By the number of a class.
+    pub classes: Items<DeclaredClass>,
+    /// The methods of an interface, by its number.
+    pub interfaces: Items<Items<DeclaredRoutine>>,
+    pub globals: Items<DeclaredGlobal>,
+}

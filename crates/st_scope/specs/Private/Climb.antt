@@ -1,0 +1,31 @@
+-- A search upward from a class, by a count of steps, and tables of the variables of classes.
+use Rattle.std.specs.Prelude.{ℕ, zero, suc, Bool, List, [], ◌∷◌, filter, Option, Some, None, option_map, option_and_then, slice_get}
+use Rattle.st_rules.specs.declared.names.DeclaredVariable.{DeclaredVariable}
+use Rattle.st_rules.specs.declared.names.DeclaredClass.{DeclaredClass}
+use Rattle.st_rules.specs.Chains.{◌or_else◌}
+use Rattle.st_rules.specs.Scope.{first_named}
+use Rattle.st_scope.specs.Private.Places.{Table, AreTables, items_at}
+
+-- from one upward, so many at most
+abbrev pub upward : {X : Type 0} → (ℕ → Option X) → (ℕ → Option ℕ) → ℕ → ℕ → Option X
+upward has above zero c = None
+upward has above (suc n) c = has c or_else option_and_then (upward has above n) (above c)
+
+-- the number of the base, where a class has one that is found
+abbrev pub base_in : List (Option ℕ) → ℕ → Option ℕ
+base_in bases c = option_and_then (λ b. b) (slice_get bases c)
+
+abbrev pub variables_at : List DeclaredClass → ℕ → List DeclaredVariable
+variables_at classes c = items_at (λ class. class.variables) classes c
+
+-- each table is one of the variables of its class that pass
+abbrev pub AreTablesOf : (DeclaredVariable → Bool) → List Table → List DeclaredClass → Type 0
+AreTablesOf test ts cs = AreTables (λ v. v.name) test (λ c. c.variables) ts cs
+
+-- the first variable of the name that a class declares itself and that passes
+abbrev pub own : (DeclaredVariable → Bool) → List DeclaredClass → List ℕ → ℕ → Option DeclaredVariable
+own test classes name c = first_named (λ v. v.name) name (filter test (variables_at classes c))
+
+-- the same with the class's number
+abbrev pub own_with_class : (DeclaredVariable → Bool) → List DeclaredClass → List ℕ → ℕ → Option (ℕ × DeclaredVariable)
+own_with_class test classes name c = option_map (λ v. (c, v)) (own test classes name c)

@@ -1,0 +1,8 @@
+//! What is in scope where a text stands, and what names and places mean there (IEC 61131-3:2013, 6.5.2.2, 6.6.5 and 6.6.6).
+#![tactic(auto)]
+
+mod climb;
+mod places;
+mod tables;
+
+pub use tables::NameTables;

@@ -1,0 +1,219 @@
+//! The names of a unit, found by hash: what all texts of the unit share.
+
+ghost use Rattle.std.specs.Prelude.{◌≡◌, true, List, IfOk, MatchOption, None, Some, option_and_then, slice_get};
+ghost use Rattle.std.specs.List.{list_any};
+ghost use Rattle.st_rules.specs.declared.names.DeclaredGlobal.{DeclaredGlobal as AGlobal};
+ghost use Rattle.st_rules.specs.declared.names.TypeParts.{TypeParts as Parts};
+ghost use Rattle.st_rules.specs.Named.{first_place};
+ghost use Rattle.st_rules.specs.Scope as scope;
+ghost use Rattle.st_rules.specs.Scope.{first_named};
+ghost use Rattle.st_scope.specs.Private.Places as places;
+ghost use Rattle.st_scope.specs.Private.Places.{IsTableOf, AreTables, items_at};
+
+use crate::climb::tables_of;
+use crate::places::{
+    Numbers, Places, Which, fields, global_variables, globals, number_of, place_of, types, values,
+};
+use plc_text::{NoMemory, Text};
+use st_rules::{DeclaredField, DeclaredGlobal, DeclaredNames, DeclaredType, TypeParts};
+use std::alloc::Global;
+use std::marker::Model;
+
+fn value_names(part: &TypeParts) -> &[Text]
+    ensures { result.now ≡ scope.value_names part.now }
+{
+    match part {
+        TypeParts::Values(names) => names.as_slice(),
+        _ => &[],
+    }
+}
+
+fn field_list(part: &TypeParts) -> &[DeclaredField]
+    ensures { result.now ≡ scope.field_list part.now }
+{
+    match part {
+        TypeParts::Fields(all) => all.as_slice(),
+        _ => &[],
+    }
+}
+
+fn values_of(alloc: Global, parts: &[TypeParts]) -> Result<Vec<Numbers>, NoMemory>
+    ensures { IfOk result (λ tables. AreTables (λ n. n) (λ n. true) scope.value_names tables.items parts.now) }
+{
+    let mut tables = Vec::new(alloc);
+    for part in parts {
+        let table = values(alloc, value_names(part))?;
+        tables.push(table)?;
+    }
+    Ok(tables)
+}
+
+fn fields_of(alloc: Global, parts: &[TypeParts]) -> Result<Vec<Numbers>, NoMemory>
+    ensures { IfOk result (λ tables. AreTables (λ f. f.name) (λ f. true) scope.field_list tables.items parts.now) }
+{
+    let mut tables = Vec::new(alloc);
+    for part in parts {
+        let table = fields(alloc, field_list(part))?;
+        tables.push(table)?;
+    }
+    Ok(tables)
+}
+
+fn type_there(all: &[DeclaredType], place: Option<usize>) -> Option<&DeclaredType>
+    ensures { MatchOption result (option_and_then (slice_get all.now) place ≡ None) (λ t. option_and_then (slice_get all.now) place ≡ Some t.now) }
+{
+    all.get(place?)
+}
+
+/// The first type of the name.
+fn type_at<'a>(table: &Places, all: &'a [DeclaredType], name: &Text) -> Option<&'a DeclaredType>
+    requires { IsTableOf (λ t. t.name) (λ t. true) table.now all.now }
+    ensures { MatchOption result (scope.type_named name.now all.now ≡ None) (λ t. scope.type_named name.now all.now ≡ Some t.now) }
+{
+    type_there(all, place_of(table, name))
+}
+
+fn global_there(all: &[DeclaredGlobal], place: Option<usize>) -> Option<&DeclaredGlobal>
+    ensures { MatchOption result (option_and_then (slice_get all.now) place ≡ None) (λ g. option_and_then (slice_get all.now) place ≡ Some g.now) }
+{
+    all.get(place?)
+}
+
+/// The first global or function of the name.
+fn global_at<'a>(
+    table: &Places,
+    all: &'a [DeclaredGlobal],
+    name: &Text,
+) -> Option<&'a DeclaredGlobal>
+    requires { IsTableOf scope.global_name (λ g. true) table.now all.now }
+    ensures { MatchOption result (first_named scope.global_name name.now all.now ≡ None) (λ g. first_named scope.global_name name.now all.now ≡ Some g.now) }
+{
+    global_there(all, place_of(table, name))
+}
+
+/// Whether there is a global variable of the name.
+fn has_variable(table: &Places, name: &Text) -> bool
+    ensures { (all : List AGlobal) → IsTableOf scope.global_name places.is_variable table.now all → result ≡ list_any (scope.is_global_variable name.now) all }
+{
+    place_of(table, name).is_some()
+}
+
+fn table_there(tables: &[Numbers], n: u32) -> Option<&Numbers>
+    ensures { MatchOption result (slice_get tables.now n ≡ None) (λ t. slice_get tables.now n ≡ Some t.now) }
+{
+    tables.get(n as usize)
+}
+
+/// The number of a value in an enumeration.
+fn value_at(tables: &[Numbers], n: u32, name: &Text) -> Option<u32>
+    ensures { (parts : List Parts) → AreTables (λ n. n) (λ n. true) scope.value_names tables.now parts → result ≡ first_place name.now (items_at scope.value_names parts n) }
+{
+    match table_there(tables, n) {
+        Some(table) => number_of(table, name),
+        None => None,
+    }
+}
+
+fn fields_at(parts: &[TypeParts], n: u32) -> &[DeclaredField]
+    ensures { result.now ≡ items_at scope.field_list parts.now n }
+{
+    match parts.get(n as usize) {
+        Some(part) => field_list(part),
+        None => &[],
+    }
+}
+
+fn field_there(all: &[DeclaredField], k: Option<u32>) -> Option<(u32, &DeclaredField)>
+    ensures { MatchOption result (option_and_then (places.numbered_at all.now) k ≡ None) (λ x. option_and_then (places.numbered_at all.now) k ≡ Some (x.0, x.1.now)) }
+{
+    let k = k?;
+    match all.get(k as usize) {
+        Some(field) => Some((k, field)),
+        None => None,
+    }
+}
+
+/// A field of a structure, with its number.
+fn field_at<'a>(
+    tables: &[Numbers],
+    parts: &'a [TypeParts],
+    n: u32,
+    name: &Text,
+) -> Option<(u32, &'a DeclaredField)>
+    requires { AreTables (λ f. f.name) (λ f. true) scope.field_list tables.now parts.now }
+    ensures { MatchOption result (scope.field_from 0 name.now (items_at scope.field_list parts.now n) ≡ None) (λ x. scope.field_from 0 name.now (items_at scope.field_list parts.now n) ≡ Some (x.0, x.1.now)) }
+{
+    match table_there(tables, n) {
+        Some(table) => field_there(fields_at(parts, n), number_of(table, name)),
+        None => None,
+    }
+}
+
+/// The names of a unit, found by hash, on cycles of bases too. Contracts see what the unit declares, and the base of each class.
+#[derive(Drop)]
+pub struct NameTables {
+    names: DeclaredNames,
+    bases: Vec<Option<u32>>,
+    types: Places,
+    globals: Places,
+    variables: Places,
+    values: Vec<Numbers>,
+    fields: Vec<Numbers>,
+    all: Vec<Places>,
+    inherited: Vec<Places>,
+    of_instance: Vec<Places>,
+}
+
+impl Model for NameTables {
+    ghost use Rattle.st_scope.specs.Tables.{Told};
+    ghost use Rattle.st_scope.specs.Private.Tables.{AreNameTables};
+    ghost use Rattle.std.specs.Coded.{codes};
+    ghost use Rattle.st_types.specs.contracts.st_type.StType as kind;
+
+    ghost Value = { Told };
+
+    ghost coded = { Prim.hlevel (codes, kind.the_row.coded) };
+
+    ghost view = { λ t. record { names = t.names; bases = t.bases.items } };
+
+    ghost invariant = { λ t. AreNameTables t.names t.types t.globals t.variables t.values.items t.fields.items t.all.items t.inherited.items t.of_instance.items };
+}
+
+impl NameTables {
+    /// The tables of what a unit declares, where the base of each class is told.
+    pub fn build(
+        alloc: Global,
+        names: DeclaredNames,
+        bases: Vec<Option<u32>>,
+    ) -> Result<NameTables, NoMemory>
+        ensures { IfOk result (λ t. t ≡ record { names = names; bases = bases.items }) }
+    {
+        let types = types(alloc, names.types.as_slice())?;
+        let globals_table = globals(alloc, names.globals.as_slice())?;
+        let variables = global_variables(alloc, names.globals.as_slice())?;
+        let values = values_of(alloc, names.parts.as_slice())?;
+        let fields = fields_of(alloc, names.parts.as_slice())?;
+        let all = tables_of(alloc, names.classes.as_slice(), Which::All)?;
+        let inherited = tables_of(alloc, names.classes.as_slice(), Which::Inherited)?;
+        let of_instance = tables_of(alloc, names.classes.as_slice(), Which::OfInstance)?;
+        Ok(NameTables {
+            names,
+            bases,
+            types,
+            globals: globals_table,
+            variables,
+            values,
+            fields,
+            all,
+            inherited,
+            of_instance,
+        })
+    }
+
+    /// The first entry of TYPE, class or interface of the name.
+    pub fn type_named(&self, name: &Text) -> Option<&DeclaredType>
+        ensures { MatchOption result (scope.type_named name.now self.now.names.types ≡ None) (λ t. scope.type_named name.now self.now.names.types ≡ Some t.now) }
+    {
+        type_at(&self.types, self.names.types.as_slice(), name)
+    }
+}
