@@ -5,3 +5,4 @@ mod Count
 mod Blocks
 mod Outputs
 mod Depth
+mod Promised

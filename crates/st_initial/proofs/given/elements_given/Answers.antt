@@ -1,0 +1,15 @@
+use Rattle.std.proofs.Common.{◌≡◌, ◌≤◌, length, take, drop, min, ap, sym, ◌∙◌, arith}
+use Rattle.std.proofs.lemmas.List.{length-take}
+use Rattle.st_tree.specs.Initial.{parts_of}
+use Rattle.st_values.specs.Initial.{listed}
+use Rattle.st_rules.proofs.ListLaws.{drop-at}
+use Rattle.st_initial.specs.Private.Given.{inits_of}
+use Rattle.st_initial.proofs.GivenLaws.{parts_step, inits_long}
+use Rattle.st_initial.proofs.given.elements_given.Goals as goal
+
+pub loop-part-preserved : goal.loop-part-preserved
+loop-part-preserved c =
+    let e = c.in_ok-push_part.ensures in (
+      inits_long c.args.limit c.push_part.new.out.items _ e,
+      parts_step c.args.limit c.parts_given-part-items.result.now c.loop-part.part-index c.part-item.result (inits_of c.loop-part.out.items) _ _ c.loop-part-test.true c.part-item.is e c.loop-part.invariant.1,
+    )

@@ -1,0 +1,13 @@
+use Rattle.std.proofs.Common.{ℕ, ◌≡◌, ◌≤◌, ◌++◌, length}
+use Rattle.std.specs.Prelude.{replicate}
+use Rattle.st_tree.specs.Initial.{initial_of}
+use Rattle.st_initial.specs.Private.Given.{inits_of}
+use Rattle.st_initial.proofs.given.push_times.Given as goal
+
+-- what was added, and what is left, is the whole
+abbrev pub invariant-loop-left : goal.invariant-loop-left
+invariant-loop-left l =
+    (length l.out.items ≤ l.limit) × ((inits_of l.out.items ++ replicate l.left (initial_of l.init)) ≡ (inits_of l.initial.out.items ++ replicate l.count (initial_of l.init)))
+
+abbrev pub decreases-loop-left : goal.decreases-loop-left
+decreases-loop-left l = l.left

@@ -1,0 +1,10 @@
+use Rattle.std.proofs.Common.{arith}
+use Rattle.st_values.specs.Program.{class_variables}
+use Rattle.st_values.specs.View.{program_of}
+use Rattle.st_initial.proofs.TableLaws.{all_lists, no_variables_past}
+use Rattle.st_initial.proofs.members.classes.Goals as goal
+
+pub returns : goal.returns
+returns c =
+    all_lists c.loop-c.all c.loop-c.c (class_variables (program_of c.args.program.now)) c.loop-c.invariant
+    (λ k h. let e = c.in-Some.ensures in let t = c.loop-c-test.false in no_variables_past c.args.program.now k (omega (arith, h, e, t)))

@@ -1,0 +1,3 @@
+pub mod Variables
+pub mod RegionNumbers
+pub mod Private

@@ -1,0 +1,65 @@
+//! The variables of all structures, classes and programs of a program, each list found once.
+
+ghost use Rattle.std.specs.Prelude.{◌≡◌, ◌+◌, ℕ, length, IfOk, IfSome};
+ghost use Rattle.st_values.specs.Program.{class_variables};
+ghost use Rattle.st_values.specs.View.{program_of};
+ghost use Rattle.st_initial.specs.Variables.{fields_at};
+ghost use Rattle.st_initial.specs.Private.Numbers.{Holds, list_at};
+
+use crate::variables::{self, Variable};
+use plc_text::{Items, NoMemory};
+use st_tree::Program;
+use std::alloc::Global;
+
+/// The variables of each structure, by the number of its type, and of each class and program, those of its bases first.
+#[derive(Drop)]
+pub struct Members<'p> {
+    pub structures: Items<Items<Variable<'p>>>,
+    pub classes: Items<Items<Variable<'p>>>,
+}
+
+#[tactic(auto, using(crate::proofs::TableLaws::no_lists, crate::proofs::TableLaws::one_list, crate::proofs::TableLaws::all_lists, crate::proofs::TableLaws::no_fields_past))]
+fn structures(alloc: Global, program: &Program) -> Result<Items<Items<Variable<'_>>>, NoMemory>
+    ensures { IfOk result (λ all. (n : ℕ) → list_at all n ≡ fields_at (program_of program.now) n) }
+{
+    let mut all = Items::new(alloc);
+    for n in 0..program.types.len() {
+        let fields = variables::structure_fields(alloc, program, n)?;
+        all.push(Items::from_vec(fields))?;
+    }
+    Ok(all)
+}
+
+/// How many classes and programs there are.
+fn count(program: &Program) -> Option<usize>
+    ensures { IfSome result (λ n. n ≡ length program.now.classes + length program.now.programs) }
+{
+    program.classes.len().checked_add(program.programs.len())
+}
+
+#[tactic(auto, using(crate::proofs::TableLaws::no_lists, crate::proofs::TableLaws::one_list))]
+fn classes(alloc: Global, program: &Program) -> Result<Items<Items<Variable<'_>>>, NoMemory>
+    ensures { IfOk result (λ all. (c : ℕ) → list_at all c ≡ class_variables (program_of program.now) c) }
+{
+    let Some(end) = count(program) else {
+        return Err(NoMemory);
+    };
+    let mut all = Items::new(alloc);
+    for c in 0..end {
+        let variables = variables::class_variables(alloc, program, c)?;
+        all.push(Items::from_vec(variables))?;
+    }
+    Ok(all)
+}
+
+/// The variables of all that the program declares.
+pub fn members_of(alloc: Global, program: &Program) -> Result<Members<'_>, NoMemory>
+    ensures { IfOk result (λ members. Holds (program_of program.now) members) }
+{
+    let structures = structures(alloc, program)?;
+    let classes = classes(alloc, program)?;
+    Ok(Members {
+        structures,
+        classes,
+    })
+}
