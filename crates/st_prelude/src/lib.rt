@@ -1,0 +1,10 @@
+//! The blocks that each program text has before its own declarations (IEC 61131-3:2013, 6.6.3.5).
+#![tactic(auto)]
+
+mod prelude;
+#[cfg(test)]
+mod tests;
+mod text;
+
+pub use prelude::with_prelude;
+pub use text::PRELUDE;

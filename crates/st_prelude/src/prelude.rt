@@ -1,0 +1,50 @@
+//! The prelude before a unit.
+
+ghost use Rattle.std.specs.Prelude.{◌≡◌, map, IfOk};
+ghost use Rattle.st_lexer.specs.Token.{token_view};
+ghost use Rattle.st_prelude.specs.Prelude.{without_line, IsPrelude, HasPrelude};
+
+use crate::text::PRELUDE;
+use plc_text::NoMemory;
+use st_lexer::{Token, lexemes, tokens};
+use st_parser_decl::unit_of;
+use st_tree::Unit;
+use std::alloc::{AllocError, Global};
+
+/// The tokens with 0 for each line.
+fn without_lines<'a>(alloc: Global, tokens: &[Token<'a>]) -> Result<Vec<Token<'a>>, AllocError>
+    ensures { IfOk result (λ found. map token_view found.items ≡ map without_line (map token_view tokens.now)) }
+{
+    let mut found = Vec::with_capacity(alloc, tokens.len())?;
+    for token in tokens {
+        let mut one = *token;
+        one.line = 0;
+        found.push(one)?;
+    }
+    Ok(found)
+}
+
+/// The unit that the prelude is.
+fn prelude(alloc: Global) -> Result<Unit, NoMemory>
+    ensures { IfOk result (λ unit. IsPrelude PRELUDE.now unit) }
+{
+    let Ok(found) = tokens(alloc, PRELUDE) else {
+        return Err(NoMemory);
+    };
+    let plain = without_lines(alloc, &found)?;
+    let spelled = lexemes(alloc, &plain)?;
+    match unit_of(alloc, &spelled) {
+        Ok(unit) => Ok(unit),
+        Err(_) => Err(NoMemory),
+    }
+}
+
+/// The unit with the declarations of the prelude before its own. Their lines are 0.
+pub fn with_prelude(alloc: Global, unit: Unit) -> Result<Unit, NoMemory>
+    ensures { IfOk result (HasPrelude PRELUDE.now unit) }
+{
+    let Unit { mut decls } = prelude(alloc)?;
+    let Unit { decls: own } = unit;
+    decls.append(own)?;
+    Ok(Unit { decls })
+}
