@@ -40,7 +40,7 @@ module _ {X : Type 0} (name_of : X → List ℕ) (test : X → Bool) where
   found_passing table xs name o is e = ap (option_and_then (slice_get xs)) (e ∙ is.finds name) ∙ first_passing xs name
 
 module _ {X : Type 0} (name_of : X → List ℕ) where
-  all_pass : (xs : List X) → filter (λ x. true) xs ≡ xs
+  pub all_pass : (xs : List X) → filter (λ x. true) xs ≡ xs
   all_pass [] = refl
   all_pass (x ∷ xs) = ap (λ ys. x ∷ ys) (all_pass xs)
 
