@@ -1,8 +1,7 @@
 -- The form of a scenario, line by line, and which lines a scenario begins with.
-use Rattle.std.specs.Prelude.{◌≡◌, ℕ, ◌+◌, ◌≤◌, Bool, true, false, ◌&&◌, nat_eq, fold, count_by, List, [], ◌∷◌, ◌++◌, length, map, drop, codes, replicate, IsUtf8, if◌then◌else◌}
+use Rattle.std.specs.Prelude.{◌≡◌, ℕ, ◌+◌, ◌≤◌, Bool, true, false, ◌&&◌, nat_eq, fold, count_by, List, [], ◌∷◌, ◌++◌, length, map, drop, codes, replicate, Ok, IsUtf8, if◌then◌else◌}
 use Rattle.std.specs.List.{AllByRecursion, flat_map, list_any, starts_with}
 use Rattle.hex.specs.Hex.{decode_of}
-use Rattle.std.specs.Prelude.{Ok}
 use Rattle.plc_text.specs.Lines.{lines_of, text_of}
 use Rattle.plc_text.specs.Numbers.{number, IsNumber32}
 use Rattle.plc_text.specs.Text.{folded}

@@ -17,7 +17,7 @@ use Rattle.st_change.specs.From.{Pairs, old_name, structure_pairs, class_pairs, 
 use Rattle.st_change.specs.Carry.{Old, old_element, old_field, field_before, variable_before, before_by, elementary_before, enumerator_before, shape_conforms, checked, relocated, reference_before, stays, carry, carry_elements, carry_members}
 use Rattle.st_change.specs.Counterpart.{kept}
 use Rattle.st_change.specs.Change.{region_before, carried_region, carry_regions, carry_store}
-use Rattle.st_change.specs.CarryLaws.{OldFits, CarryLaws}
+use Rattle.st_change.specs.CarryLaws.{OldFits}
 use Rattle.st_change.proofs.Names.{same-true}
 
 -- ---- equal names
@@ -263,9 +263,3 @@ module _ (old new : Program) where
       regions = names_same new.regions before held 0 ∙ g.regions;
       each = λ r. regions_good new.regions before held 0 r r (omega arith) b (g.each r);
     }
-
-pub carry_laws : CarryLaws
-carry_laws = record {
-  fits = λ old new keeping sh o held f g. carry_fits old new keeping held sh o f g;
-  store = λ old new keeping before held b g. store_good old new keeping before held b g;
-}

@@ -4,7 +4,7 @@ use Rattle.std.specs.Prelude.{if◌then◌else◌, option_map, slice_get}
 use Rattle.std.proofs.lemmas.Slice.Eq.{bytes_eq-Decides}
 use Rattle.plc_text.specs.Words.{same}
 use Rattle.st_values.specs.Program.{Region}
-use Rattle.st_values.specs.Rules.{first_place}
+use Rattle.st_rules.specs.Named.{first_place}
 use Rattle.st_values.specs.Value.{◌>>=◌}
 use Rattle.st_values.specs.Shape.{Fields, no_fields, field_then}
 use Rattle.st_change.specs.From.{Pairs, is_name, comes_from, unless_later, old_name, or_this, new_name, field_name, field_number, names_of_regions}

@@ -11,7 +11,7 @@ use Rattle.st_change.specs.Counterpart.{moves, is_instance_of, old_counterpart, 
 use Rattle.st_change.specs.Laws.{Distinct, DistinctFields, Paired, PathLaws}
 use Rattle.st_change.proofs.Names.{then_is, then_some, mapped_some, passed, old_new, new_old, name_number, number_name, region_number_of, region_name_of}
 
-both : (a b : Bool) → (a && b) ≡ true → (a ≡ true) × (b ≡ true)
+pub both : (a b : Bool) → (a && b) ≡ true → (a ≡ true) × (b ≡ true)
 both true true e = (refl, refl)
 both true false e = cc
 both false b e = cc
@@ -70,7 +70,7 @@ element_distinct : (n : ℕ) (x sh : Shape) (o : Option ℕ) → Distinct x → 
 element_distinct n x sh None d e = cc
 element_distinct n x sh (Some k) d e = let p = passed (nat_lt k n) x sh e in subst Distinct p.1 d
 
-part_distinct : (sh part : Shape) (w : Way) → Distinct sh → part_by sh w ≡ Some part → Distinct part
+pub part_distinct : (sh part : Shape) (w : Way) → Distinct sh → part_by sh w ≡ Some part → Distinct part
 part_distinct (Array low n sh) part (by_index i) d e = element_distinct n sh part (place_of_index low i) d e
 part_distinct (Array low n sh) part (by_name f) d e = cc
 part_distinct (Structure name fs) part (by_name f) d e = named_distinct fs f part d e
@@ -94,7 +94,7 @@ steps_ways (w ∷ ws) ss sh e =
     (then_is (part_by sh w) _ b.0 (w ∷ ws) b.1
     (then_is (ways_of b.0 c.0) _ ws (w ∷ ws) (steps_ways ws c.0 b.0 c.1) refl)))
 
-ways_steps : (ss : List Step) (ws : List Way) (sh : Shape) → Distinct sh → ways_of sh ss ≡ Some ws → steps_of sh ws ≡ Some ss
+pub ways_steps : (ss : List Step) (ws : List Way) (sh : Shape) → Distinct sh → ways_of sh ss ≡ Some ws → steps_of sh ws ≡ Some ss
 ways_steps [] ws sh u e = let d : [] ≡ ws = cc in subst (λ x. steps_of sh x ≡ Some []) d refl
 ways_steps (s ∷ ss) ws sh u e =
     let a = then_some (way_of sh s) _ ws e in

@@ -3,7 +3,7 @@ use Rattle.std.specs.Prelude.{ℕ, zero, suc, ℤ, Bool, true, false, not, ◌&&
 use Rattle.plc_text.specs.Words.{same}
 use Rattle.st_tree.specs.declared.path.Step.TheVariants as step
 use Rattle.st_values.specs.Program.{Variable, Sort, a_program, Class, TypeEntry, Region, Program, class_at, class_number, chain_of, own_of}
-use Rattle.st_values.specs.Rules.{first_place}
+use Rattle.st_rules.specs.Named.{first_place}
 use Rattle.st_values.specs.Value.{Path, Step, place_of_index, ◌>>=◌}
 use Rattle.st_values.specs.Shape.{Shape, Array, Structure, Instance, Fields, no_fields, field_then, fields_of, element_shape, region_shape}
 

@@ -7,3 +7,4 @@ pub mod Change
 pub mod OneThread
 pub mod Laws
 pub mod CarryLaws
+pub mod StoreLaws

@@ -2,6 +2,7 @@
 
 ghost use Rattle.st_change.specs.Laws.{PathLaws};
 ghost use Rattle.st_change.specs.CarryLaws.{CarryLaws};
+ghost use Rattle.st_change.specs.StoreLaws.{StoreLaws};
 
 /// Paths before and after a change are each other's inverse, and counterparts name each other.
 pub fn path_laws()
@@ -11,4 +12,9 @@ pub fn path_laws()
 /// What a new place gets fits it, and a store into which regions are carried stays good.
 pub fn carry_laws()
     ensures { CarryLaws }
+{}
+
+/// Stores stay good: after a first load, and after a change with its hooks.
+pub fn store_laws()
+    ensures { StoreLaws }
 {}

@@ -4,6 +4,7 @@ ghost use Rattle.std.specs.Prelude.{ℕ, List};
 ghost use Rattle.plc_text.specs.declared.refusal.Refusal.{Refusal};
 ghost use Rattle.st_values.specs.Program.{Program};
 ghost use Rattle.st_change.specs.Laws.{Judges, OneAnswer};
+ghost use Rattle.st_change.specs.StoreLaws.{Promises, PlaysKeep};
 
 /// What judges program texts.
 pub trait Judge {
@@ -20,4 +21,9 @@ pub trait Judge {
 /// A play has one answer and leaves one state, unless a change finds no memory.
 pub fn one_answer<J: Judge>()
     ensures { (sources : List (List ℕ)) → OneAnswer J.accepts J.refuses sources }
+{}
+
+/// Where all that is accepted keeps what the checker promises, a play on a good store leaves a good one.
+pub fn plays_keep<J: Judge>()
+    ensures { Promises J.accepts → (sources : List (List ℕ)) → PlaysKeep J.accepts J.refuses sources }
 {}

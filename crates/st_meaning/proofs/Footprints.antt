@@ -16,7 +16,7 @@ use Rattle.st_tree.specs.Expression as tree
 use Rattle.st_tree.specs.Statement.{Statement, Empty, Assign, Attempt, Exit, Continue, Return, If, Case, For, While, Repeat, Statements, no_statements, statement_then, Branches, no_branches, branch_then, Cases, no_cases, case_then, Otherwise, Nothing, Else}
 use Rattle.st_tree.specs.Statement as effect_tree
 use Rattle.st_values.specs.Program.{Parameter, Routine, Program}
-use Rattle.st_values.specs.Rules.{is_among}
+use Rattle.st_rules.specs.Chains.{is_among}
 use Rattle.st_values.specs.Value.{number, Store, at, put}
 use Rattle.st_values.specs.Initial.{note_of}
 use Rattle.st_meaning.specs.Place.{root_note}
@@ -283,14 +283,14 @@ altered_touched p b (names g) r h k = absurd k
 altered_touched p b (follows t) r h k = absurd k
 altered_touched p b (calls c) r h k = absurd k
 
-writes_read : (p : Program) (task r : ℕ) → Writes p task r → Footprint p task r
+pub writes_read : (p : Program) (task r : ℕ) → Writes p task r → Footprint p task r
 writes_read p task r (footprint.Writes.own_program h) = own_program h
 writes_read p task r (latched x h i e f) = f
 writes_read p task r (altered b u reached h k) = let a = altered_touched p b u r h k in touched b a.0 reached a.1 a.2
 
 -- ---- a cycle goes by which regions there are
 
-has_any : (fs : List ℕ) (r : ℕ) → Has fs r → is_among r fs ≡ true
+pub has_any : (fs : List ℕ) (r : ℕ) → Has fs r → is_among r fs ≡ true
 has_any [] r h = absurd h
 has_any (x ∷ xs) r h =
     ⊎_elim
@@ -302,7 +302,7 @@ has_any (x ∷ xs) r h =
     by true e = refl
     by false e = e
 
-any_has : (fs : List ℕ) (r : ℕ) → is_among r fs ≡ true → Has fs r
+pub any_has : (fs : List ℕ) (r : ℕ) → is_among r fs ≡ true → Has fs r
 any_has [] r e = cc
 any_has (x ∷ xs) r e = by (nat_eq r x) refl (any_has xs r) e
   where

@@ -4,3 +4,12 @@ pub mod Ticks
 pub mod Faults
 pub mod Footprints
 pub mod Values
+pub mod Unfolded
+pub mod OfTypes
+pub mod Spots
+pub mod Obeys
+pub mod Bodies
+pub mod Effects
+pub mod Entered
+pub mod Whole
+pub mod Frame

@@ -8,7 +8,7 @@ use Rattle.st_tree.specs.declared.path.Step.TheVariants as step
 use Rattle.st_tree.specs.declared.program.Note.{Note}
 use Rattle.st_tree.specs.Initial.{Initial, FieldInits}
 use Rattle.st_values.specs.Program.{Variable, Region, Program}
-use Rattle.st_values.specs.Rules.{◌or_else◌}
+use Rattle.st_rules.specs.Chains.{◌or_else◌}
 use Rattle.st_values.specs.Shape.{Shape, Elementary, Enumeration, Reference, Interface, Array, Structure, Instance, Fields, no_fields, field_then, field, element_shape, shape_part, shape_at, shape_of, region_shape, path_shape}
 use Rattle.st_values.specs.Value.{Path, Value, number, reference, array, structure, instance, Values, no_values, value_then, Members, no_members, member_then, Store, names_of, ◌>>=◌, element, with_element, with_element_at, member, with_member, place_of_index, part, with_part, value_at, value_with, put}
 use Rattle.st_values.specs.Initial.{list_given, fields_given, given_for, elements, init, inits, init_of, initial_value, initial_regions, initial_store}
@@ -68,7 +68,7 @@ module _ (p : Program) where
   element_replaced (suc n) sh (value_then v vs) zero new h f = (f, h.1)
   element_replaced (suc n) sh (value_then v vs) (suc k) new h f = (h.0, element_replaced n sh vs k new h.1 f)
 
-  element_of : (n : ℕ) (x sh : Shape) (o : Option ℕ) → element_shape n x o ≡ Some sh → (k : ℕ) × (o ≡ Some k) × (k < n) × (x ≡ sh)
+  pub element_of : (n : ℕ) (x sh : Shape) (o : Option ℕ) → element_shape n x o ≡ Some sh → (k : ℕ) × (o ≡ Some k) × (k < n) × (x ≡ sh)
   element_of n x sh None e = cc
   element_of n x sh (Some k) e = let a = if_some (nat_lt k n) x sh e in (k, refl, ltb-true k n a.0, a.1)
 

@@ -1,5 +1,5 @@
 -- Calls: what is called, its arguments, and the frame in which it runs (IEC 61131-3:2013, 6.6.1.4, 6.6.2.2 and 6.6.5.5).
-use Rattle.std.specs.Prelude.{ℕ, Bool, true, false, if◌then◌else◌, List, [], ◌∷◌, Option, Some, None, slice_get, slice_set}
+use Rattle.std.specs.Prelude.{ℕ, Bool, true, false, if◌then◌else◌, List, [], ◌∷◌, Option, Some, None, is_some, slice_get, slice_set}
 use Rattle.st_types.specs.declared.st_type.StType.{StType}
 use Rattle.st_types.specs.declared.st_type.StType.TheVariants as type
 use Rattle.plc_num.specs.Conversion.{converted}
@@ -51,15 +51,7 @@ last_method so_far (selector_then s ss) = last_method (method_name s) ss
 abbrev pub is_direct : Selectors Note → Bool
 is_direct no_selectors = true
 is_direct (selector_then (tree.Target a) ss) = is_direct ss
-is_direct (selector_then s no_selectors) = is_method s
-  where
-    is_method : Selector Note → Bool
-    is_method (tree.Field a name) = of a.target
-      where
-        of : Target → Bool
-        of (target.Method m) = true
-        of _ = false
-    is_method _ = false
+is_direct (selector_then s no_selectors) = is_some (method_name s)
 is_direct _ = false
 
 abbrev pub class_of_kind : StType → ℕ

@@ -14,3 +14,4 @@ pub mod Footprint
 pub mod Promise
 pub mod Laws
 pub mod GoodLaws
+pub mod FrameLaws

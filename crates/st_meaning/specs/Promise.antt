@@ -1,5 +1,5 @@
 -- What the checker promises of a program: that its notes are right, that types and arguments suit, and that types unfold.
-use Rattle.std.specs.Prelude.{◌≡◌, ◌<◌, false, ℕ, ℤ, pos, List, [], ◌∷◌, length, Option, Some, None, IsTrue, slice_get}
+use Rattle.std.specs.Prelude.{◌≡◌, ◌<◌, true, false, ℕ, ℤ, pos, List, [], ◌∷◌, length, Option, Some, None, IsTrue, slice_get}
 use Rattle.st_types.specs.declared.elem.Elem.{Elem}
 use Rattle.st_types.specs.declared.elem.Elem.TheVariants as elem
 use Rattle.st_types.specs.declared.st_type.StType.{StType, out-StType}
@@ -7,7 +7,6 @@ use Rattle.st_types.specs.declared.st_type.StType.TheOpen.{StType-F}
 use Rattle.st_types.specs.declared.st_type.StType.TheVariants as type
 use Rattle.st_types.specs.Range.{Fits}
 use Rattle.st_types.specs.Widening.{Reaches}
-use Rattle.st_tree.specs.declared.declaration.SectionSort.{SectionSort}
 use Rattle.st_tree.specs.declared.declaration.SectionSort.TheVariants as sort
 use Rattle.st_tree.specs.declared.expression.Operator.{Operator}
 use Rattle.st_tree.specs.declared.expression.Operator.TheVariants as operator
@@ -25,13 +24,13 @@ use Rattle.st_tree.specs.Statement.{Statement, Empty, Assign, Attempt, Exit, Con
 use Rattle.st_tree.specs.Statement as effect
 use Rattle.st_values.specs.Initial.{note_of, constant, number_given, list_given, fields_given, given_for}
 use Rattle.st_values.specs.Program.{Variable, Recipient, to_local, to_variable, Parameter, Routine, Class, TypeEntry, Region, Program, class_at, class_number, class_variables, conforms, lookup, body_of}
-use Rattle.st_values.specs.Rules.{◌or_else◌}
+use Rattle.st_rules.specs.Chains.{◌or_else◌}
 use Rattle.st_values.specs.Shape as shape
 use Rattle.st_values.specs.Shape.{Shape, Fields, no_fields, field_then, fields_of, has_instance, shape_of, path_shape}
 use Rattle.st_values.specs.Value.{number}
 use Rattle.st_meaning.specs.Operation.{literal_value}
 use Rattle.st_meaning.specs.Place.{root_note}
-use Rattle.st_meaning.specs.Call.{from_class, Callee, a_conversion, a_function, a_body, callee_of, parameter_named, next_parameter, behind_next}
+use Rattle.st_meaning.specs.Call.{by_instance, from_class, Callee, a_conversion, a_function, a_body, callee_of, is_in_out, parameter_named, next_parameter, behind_next}
 use Rattle.st_meaning.specs.Enter.{programs_of}
 use Rattle.st_meaning.specs.Expression.{selector_note}
 use Rattle.st_meaning.specs.Footprint.{Has, Enters}
@@ -58,6 +57,10 @@ IsHeld _ = ⊥
 abbrev pub IsPath : StType → Type 0
 IsPath (type.Instance c) = Unit {0}
 IsPath t = IsHeld t
+
+abbrev pub IsNoInstance : StType → Type 0
+IsNoInstance (type.Instance c) = ⊥
+IsNoInstance _ = Unit {0}
 
 -- what conforms to the one conforms to the other
 pub record Narrower (p : Program) (t u : StType) : Type 0 where
@@ -121,8 +124,12 @@ HasMethods _ = ⊥
 abbrev pub PartIs : Program → StType → Target → StType → Type 0
 PartIs p t (target.Field k) u = FieldIs p t k u
 PartIs p t (target.Variable k) u = MemberIs p t k u
-PartIs p t (target.Method m) u = HasMethods t
 PartIs p t _ u = ⊥
+
+-- the last name of what is called: a method's, or a part's
+abbrev pub LastIs : Program → StType → Target → StType → Type 0
+LastIs p t (target.Method m) u = HasMethods t
+LastIs p t a u = PartIs p t a u
 
 -- `^` on a reference, or on an instance
 abbrev pub TargetIs : StType → StType → Type 0
@@ -158,14 +165,11 @@ IsPlace _ = ⊥
 abbrev pub kind : Expression Note → StType
 kind e = (note_of e).kind
 
--- an expression suits a parameter of a sort and type
-abbrev pub SuitsAs : Program → SectionSort → Expression Note → StType → Type 0
-SuitsAs p sort.InOut e t = IsPlace e × Serves p (kind e) t
-SuitsAs p _ e t = Widens p (kind e) t
-
+-- an expression suits a parameter: an in-out takes a place, any other a value
 abbrev pub Suits : Program → Routine → Option Parameter → Expression Note → Type 0
 Suits p x None e = ⊥
-Suits p x (Some q) e = (v : Variable) × (recipient_variable p x q.to ≡ Some v) × SuitsAs p q.sort e v.kind
+Suits p x (Some q) e =
+    (v : Variable) × (recipient_variable p x q.to ≡ Some v) × (is_in_out q.sort ≡ true → IsPlace e × Serves p (kind e) v.kind) × (is_in_out q.sort ≡ false → Widens p (kind e) v.kind)
 
 -- what an output leaves serves at a place of this type
 abbrev pub Leaves : Program → Routine → Option Parameter → StType → Type 0
@@ -186,18 +190,20 @@ EnteredIs p (Some k) P = Entered p k P
 
 -- the in-outs of a base's body are those of the body that calls it
 pub record SameInOuts (p : Program) (locals : List Variable) (d : ℕ) : Type 0 where
-  pub by : (x : Routine) (n : ℕ) (w : Variable) → body_of p d ≡ Some x → slice_get x.locals n ≡ Some w → w.sort ≡ sort.InOut
-      → (v : Variable) × (slice_get locals n ≡ Some v) × (v.sort ≡ sort.InOut) × Serves p v.kind w.kind
+  pub by : (x : Routine) (n : ℕ) (w : Variable) → body_of p d ≡ Some x → slice_get x.locals n ≡ Some w → is_in_out w.sort ≡ true
+      → (v : Variable) × (slice_get locals n ≡ Some v) × (is_in_out v.sort ≡ true) × Serves p v.kind w.kind
 
-abbrev pub BaseIs : Program → List Variable → Callee → Type 0
-BaseIs p locals (a_body (from_class d)) = SameInOuts p locals d
-BaseIs p locals _ = Unit {0}
+-- a body is one of an instance
+abbrev pub BodyIs : Program → List Variable → StType → Callee → Type 0
+BodyIs p locals t (a_body by_instance) = (c : ℕ) × (t ≡ type.Instance c)
+BodyIs p locals t (a_body (from_class d)) = SameInOuts p locals d
+BodyIs p locals t _ = Unit {0}
 
--- a call is right: its operand, or its target and what may be entered
-abbrev pub CallIs : Program → Scope → Callee → Type 0 → Type 0 → Option Called → (Routine → Type 0) → Type 0
-CallIs p g a_conversion operand target k P = operand
-CallIs p g (a_function n) operand target k P = EnteredIs p k P
-CallIs p g c operand target k P = target × BaseIs p g.locals c × EnteredIs p k P
+-- a call is right: its operand, or its target, which has this type, and what may be entered
+abbrev pub CallIs : Program → Scope → Callee → Type 0 → Type 0 → StType → Option Called → (Routine → Type 0) → Type 0
+CallIs p g a_conversion operand target t k P = operand
+CallIs p g (a_function n) operand target t k P = EnteredIs p k P
+CallIs p g c operand target t k P = target × BodyIs p g.locals t c × EnteredIs p k P
 
 -- of a conversion the type is elementary, else it is the result's
 abbrev pub CallResultIs : Callee → StType → (Routine → Type 0) → Routine → Type 0
@@ -254,6 +260,12 @@ module _ (p : Program) (g : Scope) where
     SelectorIs (Index a es) t = IndexIs es t a.kind
     SelectorIs (tree.Target a) t = TargetIs t a.kind
 
+    -- a place, or one with a method's name behind it
+    pub CalledAlong : Selectors Note → StType → Type 0
+    CalledAlong no_selectors t = Unit {0}
+    CalledAlong (selector_then (Field a name) no_selectors) t = LastIs p t a.target a.kind
+    CalledAlong (selector_then s ss) t = SelectorIs s t × CalledAlong ss (selector_note s).kind
+
     pub IndexIs : Expressions Note → StType → StType → Type 0
     IndexIs no_expressions t u = t ≡ u
     IndexIs (expression_then e es) t u = ExpressionIs e × IsElementary (kind e) × ((w : StType) × ElementIs (out-StType t) w × IndexIs es w u)
@@ -268,7 +280,7 @@ module _ (p : Program) (g : Scope) where
     ExpressionIs (Place a r ss) = NamedIs p a.target a.kind (RootIs p g r × AlongIs ss (root_note r).kind × (last_kind (root_note r).kind ss ≡ a.kind))
     ExpressionIs (Call a r ss xs) =
         ConversionIs (callee_of r ss) a.kind
-        × CallIs p g (callee_of r ss) (OperandIs xs) (RootIs p g r × AlongIs ss (root_note r).kind) (called_of r ss) (CallResultIs (callee_of r ss) a.kind (λ x. ArgumentsAre x x.parameters x.parameters xs))
+        × CallIs p g (callee_of r ss) (OperandIs xs) (RootIs p g r × CalledAlong ss (root_note r).kind) (last_kind (root_note r).kind ss) (called_of r ss) (CallResultIs (callee_of r ss) a.kind (λ x. ArgumentsAre x x.parameters x.parameters xs))
     ExpressionIs (Enumerator a t b name) = NumberIs p a.kind (constant a.target)
     ExpressionIs (Ref a r ss) = RootIs p g r × AlongIs ss (root_note r).kind × ((c : ℕ) × (last_kind (root_note r).kind ss ≡ type.Instance c) × (a.kind ≡ type.Reference c))
     ExpressionIs (Now a) = a.kind ≡ type.Elementary elem.Time
@@ -296,11 +308,6 @@ module _ (p : Program) (g : Scope) where
   abbrev pub PlaceIs : Root Note → Selectors Note → StType → Type 0
   PlaceIs r ss t = RootIs p g r × AlongIs ss (root_note r).kind × (last_kind (root_note r).kind ss ≡ t)
 
-  -- an instance is no target
-  abbrev pub IsTarget : StType → Type 0
-  IsTarget (type.Instance c) = ⊥
-  IsTarget _ = Unit {0}
-
   abbrev pub ConditionIs : Expression Note → Type 0
   ConditionIs e = ExpressionIs e × IsBool (kind e)
 
@@ -311,9 +318,9 @@ module _ (p : Program) (g : Scope) where
   abbrev mutual
     pub StatementIs : Statement Note → Type 0
     StatementIs (Empty line) = Unit {0}
-    StatementIs (Assign line a r ss e) = PlaceIs r ss a.kind × IsTarget a.kind × ExpressionIs e × Widens p (kind e) a.kind
+    StatementIs (Assign line a r ss e) = PlaceIs r ss a.kind × IsNoInstance a.kind × ExpressionIs e × Widens p (kind e) a.kind
     StatementIs (Attempt line a r ss e) = PlaceIs r ss a.kind × IsHeld a.kind × ExpressionIs e × IsPath (kind e)
-    StatementIs (effect.Call line a r ss xs) = CallIs p g (callee_of r ss) (OperandIs xs) (RootIs p g r × AlongIs ss (root_note r).kind) (called_of r ss) (λ x. ArgumentsAre x x.parameters x.parameters xs)
+    StatementIs (effect.Call line a r ss xs) = CallIs p g (callee_of r ss) (OperandIs xs) (RootIs p g r × CalledAlong ss (root_note r).kind) (last_kind (root_note r).kind ss) (called_of r ss) (λ x. ArgumentsAre x x.parameters x.parameters xs)
     StatementIs (Exit line) = Unit {0}
     StatementIs (Continue line) = Unit {0}
     StatementIs (Return line) = Unit {0}
@@ -367,19 +374,16 @@ VariableFits p v = (sh : Shape) × (shape_of p v.kind ≡ Some sh) × StartsRigh
 
 -- a local holds no instance; of an in-out only the type counts
 abbrev pub LocalIs : Program → Variable → Type 0
-LocalIs p v = by v.sort
-  where
-    by : SectionSort → Type 0
-    by sort.InOut = Unit {0}
-    by _ = (sh : Shape) × (shape_of p v.kind ≡ Some sh) × StartsRight sh v.initial × (has_instance sh ≡ false)
+LocalIs p v = is_in_out v.sort ≡ false → (sh : Shape) × (shape_of p v.kind ≡ Some sh) × StartsRight sh v.initial × (has_instance sh ≡ false)
 
--- a parameter is a local or variable of its sort, an in-out a local
+-- A parameter is a local or variable of its sort: an in-out a local, any other none that is an instance.
 abbrev pub IsLocal : Recipient → Type 0
 IsLocal (to_local n) = Unit {0}
 IsLocal (to_variable k) = ⊥
 
 abbrev pub ParameterIs : Program → Routine → Parameter → Type 0
-ParameterIs p r q = (v : Variable) × (recipient_variable p r q.to ≡ Some v) × (v.sort ≡ q.sort) × (q.sort ≡ sort.InOut → IsLocal q.to)
+ParameterIs p r q =
+    (v : Variable) × (recipient_variable p r q.to ≡ Some v) × (v.sort ≡ q.sort) × (is_in_out q.sort ≡ true → IsLocal q.to) × (is_in_out q.sort ≡ false → IsNoInstance v.kind)
 
 abbrev pub scope_of : Routine → Scope
 scope_of r = record { this = r.class; locals = r.locals }

@@ -1,5 +1,6 @@
 //! Laws of the definitions.
 
+ghost use Rattle.st_meaning.specs.FrameLaws.{FrameLaws};
 ghost use Rattle.st_meaning.specs.GoodLaws.{GoodLaws};
 ghost use Rattle.st_meaning.specs.Laws.{TicksFall, LoopsUnroll, FaultsLeave, FootprintLaws};
 
@@ -18,4 +19,9 @@ pub fn footprint_laws()
 /// What is read in a good store fits, what is put into it keeps it good, and the store at the beginning is good.
 pub fn good_laws()
     ensures { GoodLaws }
+{}
+
+/// A cycle touches nothing but its footprint, changes nothing but what the task writes, and keeps good stores good.
+pub fn frame_laws()
+    ensures { FrameLaws }
 {}

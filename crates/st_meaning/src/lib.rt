@@ -4,4 +4,4 @@
 
 mod laws;
 
-pub use laws::{footprint_laws, good_laws, run_laws};
+pub use laws::{footprint_laws, frame_laws, good_laws, run_laws};

@@ -1,6 +1,5 @@
 -- What the machine accepts consists of the parts of what was wanted.
-use Rattle.std.proofs.Common.{◌≡◌, ℕ, suc, ◌⊎◌, inl, inr, Bool, true, false, ◌&&◌, List, [], ◌∷◌, ◌++◌, Option, Some, None, length, refl, sym, ap, arith}
-use Rattle.st_tree.specs.declared.terminal.Terminal.{Terminal}
+use Rattle.std.proofs.Common.{◌≡◌, ℕ, suc, inl, inr, Bool, true, false, ◌&&◌, List, [], ◌∷◌, Option, Some, None, length, refl, sym, ap, arith}
 use Rattle.st_tree.specs.Grammar.{Lexeme}
 use Rattle.st_parser_expr.specs.Private.Machine.{Ending}
 use Rattle.st_parser_stmt.specs.Private.Machine as s

@@ -1,9 +1,8 @@
 -- Where the machines of expressions and statements want nothing more, they stop before what goes on with no expression.
-use Rattle.std.proofs.Common.{◌≡◌, ℕ, suc, Bool, true, false, ◌&&◌, List, [], ◌∷◌, ◌++◌, Option, Some, None, length, refl, ◌∙◌, ap, arith}
+use Rattle.std.proofs.Common.{◌≡◌, suc, Bool, true, false, ◌&&◌, List, [], ◌∷◌, ◌++◌, Option, Some, None, length, refl, ◌∙◌, ap, arith}
 use Rattle.st_tree.specs.declared.terminal.Terminal.{Terminal}
 use Rattle.st_tree.specs.declared.terminal.Terminal.TheVariants as x
-use Rattle.st_tree.specs.declared.expression.Operator.{Operator}
-use Rattle.st_tree.specs.Grammar.{Lexeme, NotNext, operator_of}
+use Rattle.st_tree.specs.Grammar.{Lexeme}
 use Rattle.st_parser_expr.specs.Private.Machine as e
 use Rattle.st_parser_expr.specs.Private.Machine.{calls, reference_end, arguments_end, elsewhere, operand, more_tails, selecting, behind_name, root_next, name_next, close_next, behind_ref, behind_kind, literal_next, digits_next, comma_or_bracket, first_argument, argument_next, behind_argument, comma_or_close, NoStep, IsNoStep}
 use Rattle.st_parser_expr.specs.Private.Promises.{next_terminal}

@@ -1,5 +1,5 @@
 -- How the machine goes on.
-use Rattle.std.proofs.Common.{◌≡◌, ℕ, suc, ◌+◌, ◌≤◌, Bool, true, false, ◌&&◌, ◌||◌, List, [], ◌∷◌, ◌++◌, Option, Some, None, length, refl, sym, ◌∙◌, ap, arith, length-append}
+use Rattle.std.proofs.Common.{◌≡◌, ℕ, suc, ◌≤◌, Bool, true, false, ◌&&◌, ◌||◌, List, [], ◌∷◌, ◌++◌, Option, Some, None, length, refl, ◌∙◌, ap, arith, length-append}
 use Rattle.std.specs.Prelude.{is_some}
 use Rattle.st_tree.specs.declared.terminal.Terminal.{Terminal}
 use Rattle.st_tree.specs.Grammar.{Lexeme, sign}
@@ -8,6 +8,7 @@ use Rattle.st_parser_stmt.specs.Private.Machine as s
 use Rattle.st_parser_stmt.specs.Private.Numbers.{same_terminal}
 use Rattle.st_parser_stmt.proofs.MachineLaws as l
 use Rattle.st_parser_stmt.proofs.NumberLaws.{same-self}
+use Rattle.st_parser_decl.specs.Private.Promises.{first_in}
 use Rattle.st_parser_decl.specs.Private.Form.{Form, one, one_of, both, may, option, several, either, inside, State, nullable, starts, choose, on_terminal, on_inside, step, advance, accepts, go_on, machine}
 
 -- ---- one lexeme
@@ -104,11 +105,6 @@ step-some (inside k) t K o h = at (s.advance k t) h
     at (Some k') h = refl
     at None h = cc
 
--- whether the first lexeme is one of these
-abbrev pub first_in : (Terminal → Bool) → List Lexeme → Bool
-first_in S [] = false
-first_in S (t ∷ ts) = S t.terminal
-
 -- the ending does not count where it goes on
 go_on-some : (o : Option State) (f : State → Ending) (v v' : Ending) → is_some o ≡ true → go_on o f v ≡ go_on o f v'
 go_on-some None f v v' h = cc
@@ -157,6 +153,15 @@ pub machine-second : (a b : Form) (K : State) (ts : List Lexeme) → first_in (s
 machine-second a b K [] h = refl
 machine-second a b K (t ∷ ts) h =
     ap (λ v. go_on (choose v (step a t.terminal K None) (step b t.terminal K (advance K t.terminal))) (λ K'. machine K' ts) (accepts (b ∷ K), suc (length ts))) h
+
+-- no more lexemes are left than there were
+pub machine-left : (K : State) (ts : List Lexeme) (v : Bool) (n : ℕ) → machine K ts ≡ (v, n) → n ≤ length ts
+machine-left K [] v n h = let z : 0 ≡ n = ap (λ p. p.1) h in omega (arith, z)
+machine-left K (t ∷ ts) v n h = at (λ K' h'. machine-left K' ts v n h') (advance K t.terminal) h
+  where
+    at : ((K' : State) → machine K' ts ≡ (v, n) → n ≤ length ts) → (o : Option State) → go_on o (λ K'. machine K' ts) (accepts K, suc (length ts)) ≡ (v, n) → n ≤ suc (length ts)
+    at go None h = let z : suc (length ts) ≡ n = ap (λ p. p.1) h in omega (arith, z)
+    at go (Some K') h = let z = go K' h in omega (arith, z)
 
 -- ---- what the machine of statements reads
 

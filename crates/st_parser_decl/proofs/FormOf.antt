@@ -1,5 +1,5 @@
 -- What a form is the form of: phrases of the grammar, each a tree of theirs.
-use Rattle.std.proofs.Common.{◌≡◌, ℕ, ◌⊎◌, inl, inr, Bool, true, false, List, [], ◌∷◌, ◌++◌, Option, Some, None, refl, sym, ◌∙◌, ap, subst, append-nil}
+use Rattle.std.proofs.Common.{◌≡◌, ℕ, ◌⊎◌, inl, inr, Bool, true, false, List, [], ◌∷◌, Option, Some, None, refl, sym, ◌∙◌, ap, subst, append-nil}
 use Rattle.st_tree.specs.declared.terminal.Terminal.{Terminal}
 use Rattle.st_tree.specs.declared.terminal.Terminal.TheVariants as x
 use Rattle.st_tree.specs.declared.marks.Marks.{Marks}
@@ -11,7 +11,7 @@ use Rattle.st_parser_stmt.proofs.NumberLaws.{same-self, same-not}
 use Rattle.st_parser_stmt.proofs.Fronts.{move}
 use Rattle.st_parser_decl.specs.Private.Form.{Form, one, one_of, both, may, option, several, either, inside}
 use Rattle.st_parser_decl.specs.Private.Rules.{more_of, list_of}
-use Rattle.st_parser_decl.proofs.FormLaws.{first_in}
+use Rattle.st_parser_decl.specs.Private.Promises.{first_in}
 use Rattle.st_parser_decl.proofs.Takes.{Parts, Takes, perhaps, either_of, may_be}
 
 -- the parts make a tree, and each tree is made of parts

@@ -1,13 +1,12 @@
 -- What is wanted can be given.
-use Rattle.std.proofs.Common.{◌≡◌, ℕ, suc, inl, Bool, true, false, List, [], ◌∷◌, ◌++◌, Option, Some, None, length, refl, sym, ◌∙◌, ap, subst, arith, append_assoc, length-append}
+use Rattle.std.proofs.Common.{◌≡◌, ℕ, suc, inl, Bool, true, false, List, [], ◌∷◌, ◌++◌, Option, Some, None, length, refl, sym, ◌∙◌, ap, subst, arith, append_assoc}
 use Rattle.st_tree.specs.declared.terminal.Terminal.{Terminal}
 use Rattle.st_tree.specs.Grammar.{Lexeme}
 use Rattle.st_tree.specs.Reads.{no_marks}
-use Rattle.st_parser_expr.specs.Private.Machine.{Ending}
 use Rattle.st_parser_stmt.specs.Private.Machine as s
 use Rattle.st_parser_stmt.specs.Private.Numbers.{same_terminal}
 use Rattle.st_parser_stmt.proofs.MachineLaws as l
-use Rattle.st_parser_decl.specs.Private.Form.{Form, one, one_of, both, may, option, several, either, inside, State, nullable, starts, choose, on_terminal, on_inside, step, advance, accepts, go_on, machine}
+use Rattle.st_parser_decl.specs.Private.Form.{Form, one, one_of, both, may, option, several, either, inside, State, starts, choose, on_terminal, on_inside, step, advance, accepts, go_on, machine}
 use Rattle.st_parser_decl.proofs.Takes.{Parts, Takes, follow, Fine, Followed, begun, followed, passes}
 
 -- the terminals that may come where these are wanted

@@ -8,3 +8,9 @@ pub mod FineRules
 pub mod FormOf
 pub mod RuleForms
 pub mod Units
+pub mod Steps
+pub mod SectionSteps
+pub mod Choices
+pub mod Stopping
+pub mod Whole
+pub mod PlaceLaws

@@ -1,15 +1,15 @@
 -- Lexemes of a form consist of its parts in one way.
-use Rattle.std.proofs.Common.{◌≡◌, ℕ, suc, ◌⊎◌, inl, inr, Bool, true, false, List, [], ◌∷◌, ◌++◌, Option, Some, None, length, refl, sym, ◌∙◌, ap, subst, arith, length-append}
+use Rattle.std.proofs.Common.{◌≡◌, inl, inr, Bool, true, false, List, [], ◌∷◌, ◌++◌, Some, None, length, refl, sym, ◌∙◌, ap, subst, arith, length-append}
 use Rattle.std.proofs.Math.Bool.{Bool-set}
 use Rattle.std.proofs.Math.Nat.{ℕ_set}
 use Rattle.st_tree.specs.declared.terminal.Terminal.{Terminal}
 use Rattle.st_tree.specs.Grammar.{Lexeme, each}
 use Rattle.st_parser_expr.specs.Private.Machine.{Ending}
 use Rattle.st_parser_stmt.specs.Private.Machine as s
-use Rattle.st_parser_decl.specs.Private.Form.{Form, one, one_of, both, may, option, several, either, inside, nullable, starts}
+use Rattle.st_parser_decl.specs.Private.Form.{Form, one, one_of, both, may, option, several, either, inside, starts}
 use Rattle.st_parser_stmt.specs.Private.Numbers.{same_terminal}
 use Rattle.st_parser_stmt.proofs.NumberLaws.{same-self}
-use Rattle.st_parser_decl.proofs.FormLaws.{first_in}
+use Rattle.st_parser_decl.specs.Private.Promises.{first_in}
 use Rattle.st_parser_decl.proofs.Closed.{reads-whole}
 use Rattle.st_parser_decl.proofs.Takes.{Parts, Takes, apart, follow, Fine, Followed, not_first, closed-is, some-begun, begun-each, begun, followed}
 

@@ -51,7 +51,7 @@ use Rattle.st_tree.specs.Grammar.{Lexeme, Phrase, ◌⋆◌, nothing, sign, spel
 use Rattle.st_tree.specs.Declarations as d
 use Rattle.st_tree.proofs.Views as v
 use Rattle.st_parser_expr.specs.Private.Machine as e
-use Rattle.st_parser_expr.proofs.Fronts.{IsFront, front, both_fronts, of_expression as expression-front, of_sign as sign-front}
+use Rattle.st_parser_expr.proofs.Fronts.{front, both_fronts, of_expression as expression-front, of_sign as sign-front}
 use Rattle.st_parser_stmt.specs.Private.Machine as s
 use Rattle.st_parser_stmt.specs.Private.Promises.{starts_statement}
 use Rattle.st_parser_stmt.proofs.MachineLaws.{on-end}
@@ -61,10 +61,10 @@ use Rattle.st_parser_stmt.proofs.Spelled as spelled_by
 use Rattle.st_parser_stmt.proofs.Unique as unique
 use Rattle.st_parser_stmt.proofs.InitialUnique.{initials-one}
 use Rattle.st_parser_stmt.proofs.Fronts.{of_body as body-front, of_initial as initial-front}
-use Rattle.st_parser_decl.specs.Private.Form.{Form, one, one_of, both, may, option, several, either, inside}
+use Rattle.st_parser_decl.specs.Private.Form.{Form, one, one_of, both, option}
 use Rattle.st_parser_decl.specs.Private.Rules as w
 use Rattle.st_parser_decl.proofs.Takes.{perhaps, either_of}
-use Rattle.st_parser_decl.proofs.FormOf.{FormOf, of_map, of_sign, of_text, of_one_of, of_optional, of_both, of_perhaps, of_either, of_each, more, first_of, of_list, Headed, headed_one, headed_one_of, headed_both, headed_either, of_at, of_marked, of_inside}
+use Rattle.st_parser_decl.proofs.FormOf.{FormOf, of_map, of_sign, of_text, of_one_of, of_optional, of_both, of_perhaps, of_either, of_each, more, first_of, of_list, Headed, headed_one, headed_one_of, headed_both, of_at, of_marked, of_inside}
 
 -- where a phrase is written in the same way
 abbrev same_phrase : {X : Type 0} (P Q : X → Phrase) → Type 0
@@ -88,7 +88,7 @@ back-more_names : same_phrase d.more_names (more g.name)
 back-more_names [] ts rest h = h
 back-more_names (n ∷ ns) ts rest (m, c, (m', h, others)) = (m, c, (m', h, back-more_names ns m' rest others))
 
-to-names : same_phrase (first_of g.name) d.names
+pub to-names : same_phrase (first_of g.name) d.names
 to-names [] ts rest h = absurd h
 to-names (n ∷ ns) ts rest (m, h, others) = (m, h, to-more_names ns m rest others)
 
@@ -108,7 +108,7 @@ back-more_used : same_phrase d.more_used (more d.used)
 back-more_used [] ts rest h = h
 back-more_used (n ∷ ns) ts rest (m, c, (m', h, others)) = (m, c, (m', h, back-more_used ns m' rest others))
 
-to-used_names : same_phrase (first_of d.used) d.used_names
+pub to-used_names : same_phrase (first_of d.used) d.used_names
 to-used_names [] ts rest h = absurd h
 to-used_names (n ∷ ns) ts rest (m, h, others) = (m, h, to-more_used ns m rest others)
 
@@ -191,7 +191,7 @@ back-more_ranges : same_phrase g.more_ranges (more g.range)
 back-more_ranges [] ts rest h = h
 back-more_ranges (n ∷ ns) ts rest (m, c, (m', h, others)) = (m, c, (m', h, back-more_ranges ns m' rest others))
 
-to-ranges : same_phrase (first_of g.range) g.ranges
+pub to-ranges : same_phrase (first_of g.range) g.ranges
 to-ranges [] ts rest h = absurd h
 to-ranges (n ∷ ns) ts rest (m, h, others) = (m, h, to-more_ranges ns m rest others)
 
@@ -237,7 +237,7 @@ simple_phrase =
     either_of (λ z. at z.0 (sign (x.Kind z.1))) (either_of (λ z. at z.0 (spelled x.Word z.1)) (λ z. at z.0 (sign x.RefTo ⋆ at z.1.1.0 (spelled x.Word z.1.1.1))))
 
 of_simple_spec : FormOf w.simple_spec (SimpleSpec ℕ) g.simple_spec
-unfolding w.simple_spec w.word
+unfolding w.simple_spec w.reference w.word
 of_simple_spec = of_map simple_phrase g.simple_spec simple_from simple_to same to back
     (of_either _ _ (of_at _ (headed_one_of w.is_kind (x.Kind kind.Bool) refl) of_kind)
     (of_either _ _ (of_at _ (headed_one x.Word) (of_text x.Word)) (of_at _ (headed_both _ _ (headed_one x.RefTo)) (of_both _ _ (of_sign x.RefTo) (of_at _ (headed_one x.Word) (of_text x.Word))))))
@@ -287,7 +287,7 @@ of_option {X = X} t P Q to back f = of_map (perhaps (λ z. sign t ⋆ P z.1)) Q 
     back' None ts rest h = back None ts rest h
     back' (Some v) ts rest h = back (Some v) ts rest h
 
-to-result : same_phrase (perhaps (λ v. sign x.Colon ⋆ g.type_spec v)) d.result
+pub to-result : same_phrase (perhaps (λ v. sign x.Colon ⋆ g.type_spec v)) d.result
 to-result None ts rest h = h
 to-result (Some v) ts rest h = h
 
@@ -299,7 +299,7 @@ of_result : FormOf w.result (Option (TypeSpec ℕ)) d.result
 unfolding w.result
 of_result = of_option x.Colon g.type_spec d.result to-result back-result of_type_spec
 
-to-start_value : same_phrase (perhaps (λ v. sign x.Assign ⋆ valued v)) d.start_value
+pub to-start_value : same_phrase (perhaps (λ v. sign x.Assign ⋆ valued v)) d.start_value
 to-start_value None ts rest h = h
 to-start_value (Some v) ts rest h = h
 
@@ -313,7 +313,7 @@ of_start_value = of_option x.Assign valued d.start_value to-start_value back-sta
 
 -- ---- sections of variables
 
-to-address : same_phrase (perhaps (λ v. sign x.At ⋆ spelled x.Address v)) d.address
+pub to-address : same_phrase (perhaps (λ v. sign x.At ⋆ spelled x.Address v)) d.address
 to-address None ts rest h = h
 to-address (Some v) ts rest h = h
 
@@ -366,7 +366,7 @@ of_modifier S t p allowed is back =
     of_one_of S t p modifier_of d.modifier_terminal (d.modifier_in allowed) (λ u h. (is u h).1) (λ m ts rest h. (back m h.0, modifier-is m, h.1))
     (λ u ts rest h c. ((is u h).0, subst (λ t. sign t ts rest) (sym (is u h).1) c))
 
-section-words : (u : Terminal) → w.is_section_word u ≡ true → (d.is_keep (modifier_of u) || d.is_access (modifier_of u) ≡ true) × (d.modifier_terminal (modifier_of u) ≡ u)
+pub section-words : (u : Terminal) → w.is_section_word u ≡ true → (d.is_keep (modifier_of u) || d.is_access (modifier_of u) ≡ true) × (d.modifier_terminal (modifier_of u) ≡ u)
 section-words x.Constant h = (refl, refl)
 section-words x.Retain h = (refl, refl)
 section-words x.NonRetain h = (refl, refl)
@@ -387,7 +387,7 @@ of_section_words : FormOf w.section_words (List Modifier) (each (d.modifier_in (
 unfolding w.section_words
 of_section_words = of_each _ (of_modifier w.is_section_word x.Constant refl _ section-words words-section)
 
-keep-words : (u : Terminal) → w.is_keep u ≡ true → (d.is_keep (modifier_of u) ≡ true) × (d.modifier_terminal (modifier_of u) ≡ u)
+pub keep-words : (u : Terminal) → w.is_keep u ≡ true → (d.is_keep (modifier_of u) ≡ true) × (d.modifier_terminal (modifier_of u) ≡ u)
 keep-words x.Constant h = (refl, refl)
 keep-words x.Retain h = (refl, refl)
 keep-words x.NonRetain h = (refl, refl)
@@ -405,7 +405,7 @@ of_keep_words : FormOf w.keep_words (List Modifier) (each (d.modifier_in d.is_ke
 unfolding w.keep_words
 of_keep_words = of_each _ (of_modifier w.is_keep x.Constant refl _ keep-words words-keep)
 
-class-words : (u : Terminal) → w.is_class_word u ≡ true → (d.is_class_word (modifier_of u) ≡ true) × (d.modifier_terminal (modifier_of u) ≡ u)
+pub class-words : (u : Terminal) → w.is_class_word u ≡ true → (d.is_class_word (modifier_of u) ≡ true) × (d.modifier_terminal (modifier_of u) ≡ u)
 class-words x.Abstract h = (refl, refl)
 class-words x.Final h = (refl, refl)
 class-words _ h = cc
@@ -419,7 +419,7 @@ of_class_words : FormOf w.class_words (List Modifier) (each (d.modifier_in d.is_
 unfolding w.class_words
 of_class_words = of_each _ (of_modifier w.is_class_word x.Abstract refl _ class-words words-class)
 
-method-words : (u : Terminal) → w.is_method_word u ≡ true → (d.is_access (modifier_of u) || d.is_method_word (modifier_of u) ≡ true) × (d.modifier_terminal (modifier_of u) ≡ u)
+pub method-words : (u : Terminal) → w.is_method_word u ≡ true → (d.is_access (modifier_of u) || d.is_method_word (modifier_of u) ≡ true) × (d.modifier_terminal (modifier_of u) ≡ u)
 method-words x.Abstract h = (refl, refl)
 method-words x.Final h = (refl, refl)
 method-words x.Override h = (refl, refl)
@@ -640,7 +640,15 @@ of_members : FormOf w.members (List (Member ℕ)) (each d.member)
 unfolding w.members
 of_members = of_each _ of_member
 
-to-base : same_phrase (perhaps (λ v. sign x.Extends ⋆ d.used v)) d.base
+pub to-extended : (us : List (Used ℕ)) (ts rest : List Lexeme) → (sign x.Extends ⋆ d.used_names us) ts rest → d.extended us ts rest
+to-extended [] ts rest h = absurd h.2
+to-extended (u ∷ us) ts rest h = h
+
+pub to-implemented : (us : List (Used ℕ)) (ts rest : List Lexeme) → (sign x.Implements ⋆ d.used_names us) ts rest → d.implemented us ts rest
+to-implemented [] ts rest h = absurd h.2
+to-implemented (u ∷ us) ts rest h = h
+
+pub to-base : same_phrase (perhaps (λ v. sign x.Extends ⋆ d.used v)) d.base
 to-base None ts rest h = h
 to-base (Some v) ts rest h = h
 
@@ -723,7 +731,8 @@ abbrev setting_to : SettingValue → List ℕ ⊎ List ℕ
 setting_to (setting_is.Int n) = inl n
 setting_to (setting_is.Time n) = inr n
 
-of_setting_value : FormOf (either (one x.Int) (one x.Duration)) SettingValue d.setting_value
+of_setting_value : FormOf w.setting_value SettingValue d.setting_value
+unfolding w.setting_value
 of_setting_value = of_map (either_of (λ n. spelled x.Int n) (λ n. spelled x.Duration n)) d.setting_value setting_from setting_to same to back (of_either _ _ (of_text x.Int) (of_text x.Duration))
   where
     same : (y : SettingValue) (ts rest : List Lexeme) → d.setting_value y ts rest → setting_from (setting_to y) ≡ y
@@ -743,9 +752,13 @@ unfolding w.setting
 of_setting = of_map _ d.setting (λ z. record { name = z.0; value = z.1.1 }) (λ s. (s.name, (tt, s.value))) (λ s ts rest h. refl) (λ z ts rest h. h) (λ s ts rest h. h)
     (of_both _ _ of_name (of_both _ _ (of_sign x.Assign) of_setting_value))
 
-to-more_settings : same_phrase (more d.setting) d.more_settings
+pub to-more_settings : same_phrase (more d.setting) d.more_settings
 to-more_settings [] ts rest h = h
 to-more_settings (n ∷ ns) ts rest (m, c, (m', h, others)) = (m, c, (m', h, to-more_settings ns m' rest others))
+
+pub to-some_settings : (ss : List Setting) (ts rest : List Lexeme) → first_of d.setting ss ts rest → d.task_settings ss ts rest
+to-some_settings [] ts rest h = absurd h
+to-some_settings (s ∷ ss) ts rest h = (h.0, h.1, to-more_settings ss h.0 rest h.2)
 
 back-more_settings : same_phrase d.more_settings (more d.setting)
 back-more_settings [] ts rest h = h
@@ -807,8 +820,8 @@ Inner = (Unit {0} × (Name × (Unit {0} × (Name × (List (Section ℕ) × (Task
 abbrev inner_phrase : Inner → Phrase
 inner_phrase = either_of (λ z. sign x.Resource ⋆ g.name z.1.0 ⋆ sign x.On ⋆ g.name z.1.1.1.0 ⋆ each d.globals z.1.1.1.1.0 ⋆ tasks_phrase z.1.1.1.1.1.0 ⋆ sign x.EndResource) tasks_phrase
 
-of_inner : FormOf (either w.resource w.tasks) Inner inner_phrase
-unfolding w.resource
+of_inner : FormOf w.inner Inner inner_phrase
+unfolding w.inner w.resource
 of_inner =
     of_either _ _
     (of_both _ _ (of_sign x.Resource) (of_both _ _ of_name (of_both _ _ (of_sign x.On) (of_both _ _ of_name (of_both _ _ of_global_sections (of_both _ _ of_tasks (of_sign x.EndResource))))))) of_tasks

@@ -1,18 +1,19 @@
 -- What lexemes of a form consist of, and that the machine passes them. Whether a form is fine depends on the terminals that may follow.
-use Rattle.std.proofs.Common.{◌≡◌, ℕ, zero, suc, ◌⊎◌, inl, inr, Bool, true, false, ◌&&◌, ◌||◌, List, [], ◌∷◌, ◌++◌, Option, Some, None, length, refl, sym, ◌∙◌, ap, subst, arith}
+use Rattle.std.proofs.Common.{◌≡◌, suc, ◌⊎◌, inl, inr, Bool, true, false, ◌&&◌, ◌||◌, List, [], ◌∷◌, ◌++◌, Option, Some, None, length, refl, sym, ◌∙◌, ap, subst, arith}
 use Rattle.std.specs.Prelude.{not, is_some}
 use Rattle.std.specs.List.{list_all}
 use Rattle.st_tree.specs.declared.terminal.Terminal.{Terminal}
 use Rattle.st_tree.specs.declared.terminal.Terminal.TheVariants as x
 use Rattle.st_tree.specs.declared.expression.Operator.{Operator}
-use Rattle.st_tree.specs.Grammar.{Lexeme, Phrase, ◌⋆◌, nothing, sign, each, operator_of}
-use Rattle.st_parser_expr.specs.Private.Machine.{Ending, IsNoStep, NoStep, NoOperator}
+use Rattle.st_tree.specs.Grammar.{Lexeme, Phrase, ◌⋆◌, nothing, each, operator_of}
+use Rattle.st_parser_expr.specs.Private.Machine.{IsNoStep}
 use Rattle.st_parser_stmt.specs.Private.Machine as s
 use Rattle.st_parser_stmt.specs.Private.Numbers.{same_terminal, all}
 use Rattle.st_parser_stmt.proofs.NumberLaws.{same-self, all-is}
 use Rattle.st_parser_stmt.proofs.Passes.{Closed}
 use Rattle.st_parser_decl.specs.Private.Form.{Form, one, one_of, both, may, option, several, either, inside, State, nullable, starts, machine}
-use Rattle.st_parser_decl.proofs.FormLaws.{first_in, on-one, on-one_of, machine-both, machine-may, machine-may_not, machine-option, machine-no_option, machine-several, machine-no_several, machine-first, machine-second, inside-passes}
+use Rattle.st_parser_decl.specs.Private.Promises.{first_in}
+use Rattle.st_parser_decl.proofs.FormLaws.{on-one, on-one_of, machine-both, machine-may, machine-may_not, machine-option, machine-no_option, machine-several, machine-no_several, machine-first, machine-second, inside-passes}
 use Rattle.st_parser_decl.proofs.Closed.{reads-whole}
 
 abbrev pub Parts : Form → Type 0

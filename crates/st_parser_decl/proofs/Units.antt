@@ -1,5 +1,5 @@
 -- The place where the machine stops is the first where no unit begins, and lexemes are those of one unit at most.
-use Rattle.std.proofs.Common.{◌≡◌, ℕ, zero, suc, ◌+◌, ◌-◌, ◌<◌, ◌≤◌, Bool, true, false, List, [], ◌∷◌, ◌++◌, length, take, drop, refl, sym, ◌∙◌, ap, subst, arith, append-nil, length-append}
+use Rattle.std.proofs.Common.{◌≡◌, ℕ, suc, ◌+◌, ◌<◌, ◌≤◌, Bool, true, false, List, [], ◌∷◌, ◌++◌, length, take, refl, sym, ◌∙◌, ap, subst, arith, length-append}
 use Rattle.st_tree.specs.declared.unit.Unit.{Unit as ProgramText}
 use Rattle.st_tree.specs.Grammar.{Lexeme}
 use Rattle.st_tree.specs.Declarations.{Derives}

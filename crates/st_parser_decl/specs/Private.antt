@@ -1,3 +1,8 @@
 -- The words of private contracts.
 pub mod Form
 pub mod Rules
+pub mod Promises
+pub mod Sections
+pub mod Classes
+pub mod Configurations
+pub mod Causes

@@ -1,3 +1,5 @@
+//! Lexemes spell one list of statements and one initial value at most.
+
 ghost use Rattle.std.specs.Prelude.{◌≡◌, ℕ, List, []};
 ghost use Rattle.st_tree.specs.Initial.{Initial};
 ghost use Rattle.st_tree.specs.Statement.{Statements};

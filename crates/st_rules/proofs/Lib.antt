@@ -1,4 +1,5 @@
 pub mod Booleans
+pub mod ListLaws
 pub mod Numbers
 pub mod ChainLaws
 pub mod LeadsLaws

@@ -3,7 +3,8 @@ use Rattle.std.specs.Prelude.{ℕ, Bool, true, false, not, ◌&&◌, List, [], �
 use Rattle.std.specs.List.{list_any}
 use Rattle.std.specs.Option.{is_none}
 use Rattle.plc_text.specs.declared.code.Code.TheVariants.{E06, E12}
-use Rattle.st_tree.specs.Statement.{Statements, no_statements, statement_then, Empty, statements_of}
+use Rattle.st_tree.specs.Statement.{Statement, Empty, statement_of}
+use Rattle.st_tree.specs.declared.statement.Stmt.{Stmt}
 use Rattle.st_tree.specs.declared.declaration.SectionSort.TheVariants as sort
 use Rattle.st_tree.specs.declared.declaration.SectionSort.{SectionSort}
 use Rattle.st_tree.specs.declared.declaration.Member.{Member}
@@ -22,11 +23,13 @@ use Rattle.st_rules.specs.Chains.{is_among}
 use Rattle.st_rules.specs.Classes.{method_id, base_of, chain, lookup, methods_in, method_at}
 use Rattle.st_rules.specs.Signatures.{differ, signature_of, hook_signature, is_hook}
 
--- whether there is a statement among these: a lone `;` is none
-abbrev pub has_statements : {A : Type 0} → Statements A → Bool
-has_statements no_statements = false
-has_statements (statement_then (Empty l) ss) = has_statements ss
-has_statements (statement_then _ ss) = true
+-- a lone `;` is no statement
+abbrev pub is_plain_statement : {A : Type 0} → Statement A → Bool
+is_plain_statement (Empty l) = false
+is_plain_statement _ = true
+
+unfoldable pub is_statement : {A : Type 0} → Stmt A → Bool
+is_statement s = is_plain_statement (statement_of s)
 
 abbrev pub is_in_out : SectionSort → Bool
 is_in_out sort.InOut = true
@@ -88,7 +91,7 @@ module _ {A : Type 0} (method : Method A) where
   hook_with_other_signature other = when other E12 method.line
 
   abbrev pub abstract_method_with_statements : Faults
-  abstract_method_with_statements = when (is_abstract method.modifiers && has_statements (statements_of method.body)) E12 method.line
+  abstract_method_with_statements = when (is_abstract method.modifiers && list_any is_statement method.body) E12 method.line
 
   abbrev pub abstract_method_in_concrete_class : ClassDecl A → Faults
   abstract_method_in_concrete_class class = when (is_abstract method.modifiers && not (is_abstract class.modifiers)) E12 method.line

@@ -6,6 +6,7 @@ mod asked;
 mod faults;
 mod ids;
 mod laws;
+mod methods;
 mod modifiers;
 mod names;
 mod rows;
@@ -17,6 +18,7 @@ pub use asked::Asked;
 pub use faults::{at, earlier, when};
 pub use ids::{MethodId, PrototypeId};
 pub use laws::{class_laws, conformance_laws, fault_laws, interface_laws, signature_laws};
+pub use methods::{has_in_outs, has_statements};
 pub use modifiers::{
     Access, is_abstract, is_constant, is_final, is_override, method_access, written_access,
 };

@@ -14,7 +14,7 @@ use Rattle.st_values.proofs.ValueLaws.{then_some, one_some}
 pub record Grows (f g : StType → Option Shape) : Type 0 where
   pub by : (t : StType) (sh : Shape) → f t ≡ Some sh → g t ≡ Some sh
 
-mapped_some : {A B : Type 0} (h : A → B) (o : Option A) (b : B) → option_map h o ≡ Some b → (a : A) × (o ≡ Some a) × (h a ≡ b)
+pub mapped_some : {A B : Type 0} (h : A → B) (o : Option A) (b : B) → option_map h o ≡ Some b → (a : A) × (o ≡ Some a) × (h a ≡ b)
 mapped_some h None b e = cc
 mapped_some h (Some a) b e = (a, refl, cc)
 

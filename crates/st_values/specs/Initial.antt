@@ -8,7 +8,7 @@ use Rattle.st_tree.specs.Expression.{Expression, Int, Typed, Time, True, False, 
 use Rattle.st_tree.specs.Initial as given
 use Rattle.st_tree.specs.Initial.{Initial, Parts, FieldInits}
 use Rattle.st_tree.specs.Number.{number_of}
-use Rattle.st_values.specs.Rules.{◌or_else◌}
+use Rattle.st_rules.specs.Chains.{◌or_else◌}
 use Rattle.st_values.specs.Program.{Variable, Region, Program}
 use Rattle.st_values.specs.Value.{Value, number, reference, array, structure, instance, Values, no_values, value_then, Members, no_members, member_then, Store}
 use Rattle.st_values.specs.Shape.{Shape, Elementary, Enumeration, Reference, Interface, Array, Structure, Instance, Fields, no_fields, field_then, shape_of}

@@ -1,4 +1,3 @@
-pub mod Rules
 pub mod Program
 pub mod Value
 pub mod Shape

@@ -9,7 +9,8 @@ use Rattle.st_tree.specs.declared.program.Note.{Note}
 use Rattle.st_tree.specs.declared.program.TaskDecl.{TaskDecl}
 use Rattle.st_tree.specs.Initial.{Initial}
 use Rattle.st_tree.specs.Statement.{Statements}
-use Rattle.st_values.specs.Rules.{is_among, nearest, first_place}
+use Rattle.st_rules.specs.Chains.{is_among, nearest}
+use Rattle.st_rules.specs.Named.{first_place}
 
 -- a variable that has a place: no constant and no external
 pub record Variable : Type 0 where

@@ -34,7 +34,9 @@ use Rattle.st_tree.specs.declared.type_spec.TypeSpec.{TypeSpec}
 use Rattle.st_tree.specs.Initial.{Initial, initial_of}
 use Rattle.st_tree.specs.Reads.{no_marks}
 use Rattle.st_tree.specs.Statement.{Statements, statements_of}
-use Rattle.st_values.specs.Rules.{chain, conforms, extends, methods_in, is_constant}
+use Rattle.st_rules.specs.Classes.{chain, methods_in}
+use Rattle.st_rules.specs.Interfaces.{conforms, extends}
+use Rattle.st_rules.specs.Modifiers.{is_constant}
 use Rattle.st_values.specs.Program.{Variable, to_local, to_variable, Parameter, Routine, Sort, a_class, a_block, a_program, Class, Signature, Interface, TypeBody, an_alias, an_enumeration, a_structure, TypeEntry, Region, Program}
 
 -- ---- types and variables

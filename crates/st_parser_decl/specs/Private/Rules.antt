@@ -88,8 +88,11 @@ ranges = list_of range
 unfoldable pub array_spec : Form
 array_spec = both (one x.Array) (both (one x.OpenBracket) (both ranges (both (one x.CloseBracket) (one x.Of))))
 
+unfoldable pub reference : Form
+reference = both (one x.RefTo) word
+
 unfoldable pub simple_spec : Form
-simple_spec = either (one_of is_kind (x.Kind kind.Bool) refl) (either word (both (one x.RefTo) word))
+simple_spec = either (one_of is_kind (x.Kind kind.Bool) refl) (either word reference)
 
 unfoldable pub type_spec : Form
 type_spec = both (several array_spec) simple_spec
@@ -202,8 +205,11 @@ function = both (one x.Function) (both word (both result (both (may x.Semicolon)
 unfoldable pub program : Form
 program = both (one x.Program) (both word (both sections (body x.EndProgram tt (refl, tt))))
 
+unfoldable pub setting_value : Form
+setting_value = either (one x.Int) (one x.Duration)
+
 unfoldable pub setting : Form
-setting = both word (both (one x.Assign) (either (one x.Int) (one x.Duration)))
+setting = both word (both (one x.Assign) setting_value)
 
 unfoldable pub settings : Form
 settings = option (list_of setting)
@@ -220,8 +226,11 @@ tasks = both (several task) (several instance)
 unfoldable pub resource : Form
 resource = both (one x.Resource) (both word (both (one x.On) (both word (both global_sections (both tasks (one x.EndResource))))))
 
+unfoldable pub inner : Form
+inner = either resource tasks
+
 unfoldable pub configuration : Form
-configuration = both (one x.Configuration) (both word (both global_sections (both (either resource tasks) (one x.EndConfiguration))))
+configuration = both (one x.Configuration) (both word (both global_sections (both inner (one x.EndConfiguration))))
 
 unfoldable pub declaration : Form
 declaration = either types (either globals (either interface (either class (either block (either function (either program configuration))))))

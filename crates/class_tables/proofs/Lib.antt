@@ -1,0 +1,13 @@
+pub mod MapLaws
+pub mod IndexLaws
+pub mod RowLaws
+pub mod EndLaws
+pub mod StoreLaws
+pub mod AbsorbLaws
+pub mod ClimbLaws
+pub mod GraphLaws
+pub mod BridgeLaws
+pub mod ConformLaws
+pub mod SettleLaws
+pub mod TableLaws
+pub mod SlotLaws

@@ -1,0 +1,77 @@
+//! What is found in the parts of tables.
+
+ghost use Rattle.std.specs.Prelude.{◌≡◌, length};
+ghost use Rattle.graph_reach.specs.Reach.{reaches};
+ghost use Rattle.class_tables.specs.Private.Found as found;
+
+use crate::index::number_of;
+use crate::rows::UnitRows;
+use crate::settle::Settled;
+use crate::unit_names::UnitNames;
+use graph_reach::Row;
+use plc_text::Text;
+use st_rules::MethodId;
+
+/// The method that a name means in a class.
+pub fn method(names: &UnitNames, settled: &Settled, class: u32, name: &Text) -> Option<MethodId>
+    ensures { result ≡ found.method names.now settled.now class name.now }
+{
+    let number = number_of(&names.methods, name)?;
+    let state = settled.states.get(class as usize)?;
+    let entry = settled.store.entry(state.methods, number)?;
+    Some(entry.id)
+}
+
+/// The slot of that method.
+pub fn slot(names: &UnitNames, settled: &Settled, class: u32, name: &Text) -> Option<u32>
+    ensures { result ≡ found.slot names.now settled.now class name.now }
+{
+    let number = number_of(&names.methods, name)?;
+    let state = settled.states.get(class as usize)?;
+    let entry = settled.store.entry(state.methods, number)?;
+    Some(if state.ends { entry.slot } else { number })
+}
+
+/// Whether a class is another one or is derived from it.
+pub fn has_above(settled: &Settled, class: u32, other: u32) -> bool
+    ensures { result ≡ found.has_above settled.now class other }
+{
+    if other as usize >= settled.states.len() {
+        return class == other;
+    }
+    match settled.states.get(class as usize) {
+        Some(state) => settled.store.has(state.above, other),
+        None => class == other,
+    }
+}
+
+fn leads(reach: &[Row], node: usize, other: usize) -> bool
+    ensures { result ≡ reaches reach.now node other }
+{
+    match reach.get(node) {
+        Some(row) => row.has(other),
+        None => false,
+    }
+}
+
+/// Whether a class conforms to an interface.
+pub fn conforms_to(rows: &UnitRows, count: u32, reach: &[Row], class: u32, interface: u32) -> bool
+    requires { count ≡ length rows.now.interfaces }
+    ensures { result ≡ found.conforms_to rows.now reach.now class interface }
+{
+    if class as usize >= rows.classes.len() || interface >= count {
+        return false;
+    }
+    leads(reach, count as usize + class as usize, interface as usize)
+}
+
+/// Whether an interface is another one or extends it.
+pub fn extends(rows: &UnitRows, reach: &[Row], interface: u32, other: u32) -> bool
+    ensures { result ≡ found.extends rows.now reach.now interface other }
+{
+    let count = rows.interfaces.len();
+    if interface as usize >= count || other as usize >= count {
+        return interface == other;
+    }
+    leads(reach, interface as usize, other as usize)
+}

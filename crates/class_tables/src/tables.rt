@@ -1,0 +1,129 @@
+//! Which method a name means in a class, which slot it has, and to what a class conforms.
+
+ghost use Rattle.std.specs.Prelude.{◌≡◌, IfOk};
+ghost use Rattle.st_rules.specs.Classes as classes;
+ghost use Rattle.st_rules.specs.Classes.{classes_in};
+ghost use Rattle.st_rules.specs.Interfaces as interfaces;
+ghost use Rattle.st_rules.specs.Interfaces.{interfaces_in};
+ghost use Rattle.class_tables.specs.Slots as slots;
+
+use crate::found;
+use crate::graph::lead;
+use crate::index::first_place;
+use crate::rows::{UnitRows, unit_rows};
+use crate::settle::{Settled, settle_all};
+use crate::unit_names::{UnitNames, unit_names};
+use graph_reach::Row;
+use plc_text::{NoMemory, Text};
+use st_rules::MethodId;
+use st_tree::Unit;
+use st_types::StType;
+use std::alloc::Global;
+use std::marker::Model;
+use std::snapshot::Snapshot;
+
+/// The classes of a unit, which contracts see as the unit. Classes and interfaces are told by their numbers, from 0 in the order of the
+/// text, function blocks among the classes. What a name means is decided on cycles of bases and interfaces too.
+#[derive(Drop)]
+pub struct ClassTables {
+    of: Snapshot<Unit>,
+    names: UnitNames,
+    rows: UnitRows,
+    settled: Settled,
+    reach: Vec<Row>,
+}
+
+impl Model for ClassTables {
+    ghost use Rattle.st_tree.specs.declared.unit.Unit.{Unit};
+
+    ghost Value = { Unit };
+
+    ghost use Rattle.st_tree.specs.contracts.unit.Unit as unit_type;
+
+    ghost coded = { unit_type.the_row.coded };
+
+    ghost use Rattle.st_rules.specs.Classes.{classes_in};
+    ghost use Rattle.st_rules.specs.Interfaces.{interfaces_in};
+    ghost use Rattle.class_tables.specs.Private.Tables.{AreTables};
+
+    ghost view = { λ t. t.of.value };
+
+    ghost invariant = { λ t. AreTables (classes_in t.of.value.decls) (interfaces_in t.of.value.decls) t.names t.rows t.settled t.reach.items };
+}
+
+impl ClassTables {
+    /// The tables of a unit.
+    pub fn build(alloc: Global, unit: &Unit) -> Result<ClassTables, NoMemory>
+        ensures { IfOk result (λ tables. tables ≡ unit.now) }
+    {
+        let decls = unit.decls.as_slice();
+        let names = unit_names(alloc, decls)?;
+        let rows = unit_rows(alloc, &names, decls)?;
+        let settled = settle_all(alloc, rows.classes.as_slice(), names.methods.len())?;
+        let reach = lead(alloc, &rows)?;
+        Ok(ClassTables {
+            of: Snapshot::of(unit),
+            names,
+            rows,
+            settled,
+            reach,
+        })
+    }
+
+    /// The class or function block that a name means: the first of that name.
+    pub fn class_named(&self, name: &Text) -> Option<u32>
+        ensures { result ≡ classes.class_named (classes_in self.now.decls) name.now }
+    {
+        first_place(&self.names.classes, name)
+    }
+
+    /// The interface that a name means: the first of that name.
+    pub fn interface_named(&self, name: &Text) -> Option<u32>
+        ensures { result ≡ interfaces.interface_named (interfaces_in self.now.decls) name.now }
+    {
+        first_place(&self.names.interfaces, name)
+    }
+
+    /// The method that a name means in a class: the nearest one of that name in the chain of the class.
+    pub fn method_of(&self, class: u32, name: &Text) -> Option<MethodId>
+        ensures { result ≡ classes.lookup (classes_in self.now.decls) class name.now }
+    {
+        found::method(&self.names, &self.settled, class, name)
+    }
+
+    /// The slot of the method that a name means in a class: the same in each derived class, and another for another name.
+    pub fn slot_of(&self, class: u32, name: &Text) -> Option<u32>
+        ensures { result ≡ slots.slot (classes_in self.now.decls) class name.now }
+    {
+        found::slot(&self.names, &self.settled, class, name)
+    }
+
+    /// Whether a class conforms to a class, an interface or a reference to a class.
+    #[tactic(auto, unfolding(st_rules::specs::Interfaces::conforms))]
+    pub fn conforms(&self, class: u32, target: &StType) -> bool
+        ensures { result ≡ interfaces.conforms (classes_in self.now.decls) (interfaces_in self.now.decls) class target.now }
+    {
+        match target {
+            StType::Instance(other) => found::has_above(&self.settled, class, *other),
+            StType::Reference(other) => found::has_above(&self.settled, class, *other),
+            StType::Interface(interface) => found::conforms_to(
+                &self.rows,
+                self.names.interface_count,
+                &self.reach,
+                class,
+                *interface,
+            ),
+            StType::Elementary(_) => false,
+            StType::Enumeration(_) => false,
+            StType::Structure(_) => false,
+            StType::Array(_, _, _) => false,
+        }
+    }
+
+    /// Whether an interface is another one or extends it, in any number of steps.
+    pub fn extends(&self, interface: u32, other: u32) -> bool
+        ensures { result ≡ interfaces.extends (interfaces_in self.now.decls) interface other }
+    {
+        found::extends(&self.rows, &self.reach, interface, other)
+    }
+}

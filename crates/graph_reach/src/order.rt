@@ -1,0 +1,280 @@
+//! Edges in an order in which what they lead to is soon complete: groups of nodes that lead to each other, the last first; in a group
+//! all edges, then those that bring to one node what the others have, then those that bring it back. Nothing is said of the order
+//! here, since no answer depends on it.
+
+use plc_text::{Items, NoMemory};
+use std::alloc::Global;
+
+/// An edge: its node, and its place among the edges of that node.
+#[derive(Clone, Copy)]
+pub struct Step {
+    pub node: usize,
+    pub place: usize,
+}
+
+const NONE: usize = usize::MAX;
+
+/// An edge and where it leads.
+#[derive(Clone, Copy)]
+struct Edge {
+    step: Step,
+    to: usize,
+}
+
+fn edges_of(alloc: Global, lists: &[Items<u32>]) -> Result<Vec<Edge>, NoMemory> {
+    let mut edges = Vec::new(alloc);
+    for (node, ahead) in lists.iter().enumerate() {
+        for (place, to) in ahead.as_slice().iter().enumerate() {
+            edges.push(Edge {
+                step: Step { node, place },
+                to: *to as usize,
+            })?;
+        }
+    }
+    Ok(edges)
+}
+
+/// The edges at each node: the first one, and behind each edge the next.
+#[derive(Drop)]
+struct Threads {
+    first: Vec<usize>,
+    next: Vec<usize>,
+}
+
+impl Threads {
+    fn new(
+        alloc: Global,
+        count: usize,
+        edges: &[Edge],
+        forward: bool,
+    ) -> Result<Threads, NoMemory> {
+        let mut first: Vec<usize> = vec![in alloc; NONE; count]?;
+        let mut next: Vec<usize> = vec![in alloc; NONE; edges.len()]?;
+        for (k, edge) in edges.iter().enumerate() {
+            let node = if forward { edge.step.node } else { edge.to };
+            if node < first.len() && k < next.len() {
+                next[k] = first[node];
+                first[node] = k;
+            }
+        }
+        Ok(Threads { first, next })
+    }
+
+    /// The next edge at the node, which is then done with.
+    fn take(&mut self, node: usize) -> Option<usize> {
+        if node >= self.first.len() {
+            return None;
+        }
+        let k = self.first[node];
+        if k >= self.next.len() {
+            return None;
+        }
+        self.first[node] = self.next[k];
+        Some(k)
+    }
+}
+
+fn turns(count: usize, edges: &[Edge]) -> usize {
+    count.saturating_add(count).saturating_add(edges.len())
+}
+
+/// The nodes in the order in which a search leaves them.
+fn left_order(alloc: Global, count: usize, edges: &[Edge]) -> Result<Vec<usize>, NoMemory> {
+    let mut threads = Threads::new(alloc, count, edges, true)?;
+    let mut seen: Vec<bool> = vec![in alloc; false; count]?;
+    let mut stack: Vec<usize> = Vec::new(alloc);
+    let mut left: Vec<usize> = Vec::new(alloc);
+    let mut root: usize = 0;
+    for _ in 0..turns(count, edges) {
+        match stack.pop() {
+            None => {
+                if root >= seen.len() {
+                    break;
+                }
+                if !seen[root] {
+                    seen[root] = true;
+                    stack.push(root)?;
+                }
+                root += 1;
+            }
+            Some(top) => match threads.take(top) {
+                None => left.push(top)?,
+                Some(k) => {
+                    stack.push(top)?;
+                    if k < edges.len() {
+                        let to = edges[k].to;
+                        if to < seen.len() && !seen[to] {
+                            seen[to] = true;
+                            stack.push(to)?;
+                        }
+                    }
+                }
+            },
+        }
+    }
+    Ok(left)
+}
+
+/// Groups of nodes that lead to each other, those first from which others are reached.
+#[derive(Drop)]
+struct Groups {
+    /// The nodes, group after group, each group from its root on.
+    nodes: Vec<usize>,
+    /// Where each group begins.
+    starts: Vec<usize>,
+    /// The root of each node's group.
+    roots: Vec<usize>,
+    /// The edge of each node that leads towards its root.
+    ahead: Vec<usize>,
+}
+
+impl Groups {
+    fn new(alloc: Global, count: usize, edges: &[Edge]) -> Result<Groups, NoMemory> {
+        let left_nodes = left_order(alloc, count, edges)?;
+        let mut threads = Threads::new(alloc, count, edges, false)?;
+        let mut groups = Groups {
+            nodes: Vec::new(alloc),
+            starts: Vec::new(alloc),
+            roots: vec![in alloc; NONE; count]?,
+            ahead: vec![in alloc; NONE; count]?,
+        };
+        let mut stack: Vec<usize> = Vec::new(alloc);
+        let mut left = left_nodes.len();
+        for _ in 0..turns(count, edges) {
+            match stack.pop() {
+                None => {
+                    if left == 0 || left > left_nodes.len() {
+                        break;
+                    }
+                    left -= 1;
+                    let root = left_nodes[left];
+                    if groups.is_new(root) {
+                        groups.starts.push(groups.nodes.len())?;
+                        groups.add(root, root, NONE)?;
+                        stack.push(root)?;
+                    }
+                }
+                Some(top) => {
+                    if let Some(k) = threads.take(top) {
+                        stack.push(top)?;
+                        if k < edges.len() && groups.is_new(edges[k].step.node) {
+                            let node = edges[k].step.node;
+                            groups.add(node, groups.root(top), k)?;
+                            stack.push(node)?;
+                        }
+                    }
+                }
+            }
+        }
+        Ok(groups)
+    }
+
+    fn is_new(&self, node: usize) -> bool {
+        node < self.roots.len() && self.roots[node] == NONE
+    }
+
+    fn root(&self, node: usize) -> usize {
+        if node < self.roots.len() {
+            self.roots[node]
+        } else {
+            NONE
+        }
+    }
+
+    fn add(&mut self, node: usize, root: usize, ahead: usize) -> Result<(), NoMemory> {
+        if node < self.roots.len() && node < self.ahead.len() {
+            self.nodes.push(node)?;
+            self.roots[node] = root;
+            self.ahead[node] = ahead;
+        }
+        Ok(())
+    }
+
+    /// The nodes of a group, its root first.
+    fn group(&self, number: usize) -> &[usize] {
+        if number >= self.starts.len() {
+            return &[];
+        }
+        let start = self.starts[number];
+        let end = if number < self.starts.len() - 1 {
+            self.starts[number + 1]
+        } else {
+            self.nodes.len()
+        };
+        if start <= end && end <= self.nodes.len() {
+            &self.nodes[start..end]
+        } else {
+            &[]
+        }
+    }
+}
+
+/// Adds all edges of a node.
+fn add_edges(steps: &mut Vec<Step>, lists: &[Items<u32>], node: usize) -> Result<(), NoMemory> {
+    if node < lists.len() {
+        for place in 0..lists[node].len() {
+            steps.push(Step { node, place })?;
+        }
+    }
+    Ok(())
+}
+
+/// The edges by which a search from the root of a group finds its nodes, in the order of finding.
+fn found_by(
+    alloc: Global,
+    lists: &[Items<u32>],
+    groups: &Groups,
+    group: &[usize],
+    seen: &mut Vec<bool>,
+) -> Result<Vec<Step>, NoMemory> {
+    let mut steps = Vec::new(alloc);
+    if group.is_empty() {
+        return Ok(steps);
+    }
+    let root = group[0];
+    let mut queue: Vec<usize> = Vec::new(alloc);
+    queue.push(root)?;
+    for at in 0..group.len() {
+        if at >= queue.len() {
+            break;
+        }
+        let node = queue[at];
+        if node < lists.len() {
+            for (place, to) in lists[node].as_slice().iter().enumerate() {
+                let to = *to as usize;
+                if to != root && groups.root(to) == root && to < seen.len() && !seen[to] {
+                    seen[to] = true;
+                    steps.push(Step { node, place })?;
+                    queue.push(to)?;
+                }
+            }
+        }
+    }
+    Ok(steps)
+}
+
+/// The edges in an order in which what they lead to is soon complete.
+pub fn order(alloc: Global, lists: &[Items<u32>]) -> Result<Vec<Step>, NoMemory> {
+    let edges = edges_of(alloc, lists)?;
+    let groups = Groups::new(alloc, lists.len(), &edges)?;
+    let mut seen: Vec<bool> = vec![in alloc; false; lists.len()]?;
+    let mut steps = Vec::new(alloc);
+    for back in 0..groups.starts.len() {
+        let group = groups.group(groups.starts.len() - 1 - back);
+        for node in group {
+            add_edges(&mut steps, lists, *node)?;
+        }
+        if group.len() > 1 {
+            let found = found_by(alloc, lists, &groups, group, &mut seen)?;
+            for step in found.iter().rev() {
+                steps.push(*step)?;
+            }
+            for node in group {
+                if *node < groups.ahead.len() && groups.ahead[*node] < edges.len() {
+                    steps.push(edges[groups.ahead[*node]].step)?;
+                }
+            }
+        }
+    }
+    Ok(steps)
+}

@@ -1,0 +1,47 @@
+-- Stores stay good: after a first load, after a change with its hooks, and after each play.
+use Rattle.std.specs.Prelude.{◌≡◌, ◌≤◌, ℕ, false, List, Some, slice_get}
+use Rattle.plc_text.specs.declared.refusal.Refusal.{Refusal}
+use Rattle.cycle_journal.specs.declared.entry.Answer.{Answer}
+use Rattle.cycle_journal.specs.declared.play.Play.{Play}
+use Rattle.cycle_journal.specs.declared.play.Play.TheVariants as play
+use Rattle.st_values.specs.Program.{Variable, to_local, Parameter, Routine, Program, own_method}
+use Rattle.st_values.specs.Value.{Store}
+use Rattle.st_meaning.specs.Call.{is_in_out}
+use Rattle.st_meaning.specs.Good.{Good}
+use Rattle.st_meaning.specs.Promise.{Each, IsBool, RoutineIs, ProgramIs}
+use Rattle.st_meaning.specs.FrameLaws.{last_moment}
+use Rattle.st_change.specs.Hook.{When, hook_name, ran}
+use Rattle.st_change.specs.Change as change
+use Rattle.st_change.specs.OneThread.{Controller, One}
+
+-- a parameter of a hook is an input of the type BOOL
+abbrev pub IsFlag : Routine → Parameter → Type 0
+IsFlag r q = (n : ℕ) × (v : Variable) × (q.to ≡ to_local n) × (slice_get r.locals n ≡ Some v) × (is_in_out v.sort ≡ false) × IsBool v.kind
+
+-- what the checker promises of hooks
+pub record HooksAre (p : Program) : Type 0 where
+  pub by : (w : When) (c : ℕ) (r : Routine) → own_method p (hook_name w) c ≡ Some r → RoutineIs p r × (r.class ≡ Some c) × Each (IsFlag r) r.parameters
+
+-- what it promises of all that it accepts
+pub record Promises (Accepts : List ℕ → Program → Type 0) : Type 0 where
+  pub program : (text : List ℕ) (p : Program) → Accepts text p → ProgramIs p
+  pub hooks : (text : List ℕ) (p : Program) → Accepts text p → HooksAre p
+
+-- a controller whose program is right and whose store is good
+pub record IsGood (c : Controller) : Type 0 where
+  pub program : ProgramIs c.program
+  pub hooks : HooksAre c.program
+  pub store : Good c.program c.store
+
+-- moments have 32 bits
+abbrev pub Timely : Play → Type 0
+Timely (play.Cycle name now input) = now ≤ last_moment
+Timely _ = Unit {0}
+
+pub record StoreLaws : Type 0 where
+  pub start : (p : Program) (s : Store) (n : ℕ) → ProgramIs p → HooksAre p → change.start p ≡ ran s n → Good p s
+  pub change : (old new : Program) (before s : Store) (n : ℕ) → ProgramIs old → ProgramIs new → HooksAre old → HooksAre new → Good old before → change.change old new before ≡ ran s n → Good new s
+
+-- A play leaves a good program and store.
+abbrev pub PlaysKeep : (List ℕ → Program → Type 0) → (List ℕ → Refusal → Type 0) → List (List ℕ) → Type 0
+PlaysKeep Accepts Refuses sources = (c d : Controller) (p : Play) (a : Answer) → Timely p → One Accepts Refuses sources c p a d → IsGood c → IsGood d

@@ -1,0 +1,18 @@
+use Rattle.std.proofs.lemmas.Result.{err_from_is_err_and}
+use Rattle.st_tree.specs.declared.terminal.Terminal.TheVariants as x
+use Rattle.st_parser_decl.specs.Private.Rules as w
+use Rattle.st_parser_decl.proofs.RuleForms as forms
+use Rattle.st_parser_decl.proofs.Steps as r
+use Rattle.st_parser_decl.proofs.class.implemented.Goals as goal
+
+pub returns-then-not-eat-clause-ok : goal.returns-then-not-eat-clause-ok
+unfolding w.implemented
+returns-then-not-eat-clause-ok c = rw (c.eat.ensures.no c.if-not-eat.true, c.new.ensures) (r.no_option x.Implements _ _ (c.eat.ensures.not c.if-not-eat.true))
+
+pub returns-in_err-interfaces-clause-err : goal.returns-in_err-interfaces-clause-err
+unfolding w.implemented
+returns-in_err-interfaces-clause-err c = let p = err_from_is_err_and c.from_residual.result c.from_residual.ensures.1 in rw (p.1, p.2) (r.option_fails x.Implements (c.eat.ensures.yes c.if-not-eat.false) c.in_err-interfaces.ensures.err)
+
+pub returns-clause-ok : goal.returns-clause-ok
+unfolding w.implemented
+returns-clause-ok c = r.as_phrase (forms.to-implemented _ _ _) (r.parses_option x.Implements (c.eat.ensures.yes c.if-not-eat.false) c.in_ok-interfaces.ensures.ok)

@@ -1,0 +1,26 @@
+use Rattle.std.proofs.Common.{refl}
+use Rattle.std.proofs.lemmas.Result.{err_from_is_err_and}
+use Rattle.st_tree.specs.declared.terminal.Terminal.TheVariants as x
+use Rattle.st_parser_decl.specs.Private.Rules as w
+use Rattle.st_parser_decl.proofs.Steps as r
+use Rattle.st_parser_decl.proofs.routine.program.Goals as goal
+
+pub returns-in_err-sign-clause-err : goal.returns-in_err-sign-clause-err
+unfolding w.program
+returns-in_err-sign-clause-err c = let p = err_from_is_err_and c.from_residual.result c.from_residual.ensures.1 in rw (p.1, p.2) (r.fails_here c.in_err-sign.ensures.err)
+
+pub returns-in_err-name-clause-err : goal.returns-in_err-name-clause-err
+unfolding w.program
+returns-in_err-name-clause-err c = let p = err_from_is_err_and c.from_residual-in_err-name.result c.from_residual-in_err-name.ensures.1 in rw (p.1, p.2) (r.fails_behind c.in_ok-sign.ensures.ok (r.fails_here c.in_err-name.ensures.err))
+
+pub returns-in_err-sections-clause-err : goal.returns-in_err-sections-clause-err
+unfolding w.program
+returns-in_err-sections-clause-err c = let p = err_from_is_err_and c.from_residual-in_err-sections.result c.from_residual-in_err-sections.ensures.1 in rw (p.1, p.2) (r.fails_behind c.in_ok-sign.ensures.ok (r.fails_behind c.in_ok-name.ensures.ok (r.fails_here c.in_err-sections.ensures.err)))
+
+pub returns-in_err-body-clause-err : goal.returns-in_err-body-clause-err
+unfolding w.program
+returns-in_err-body-clause-err c = let p = err_from_is_err_and c.from_residual-in_err-body.result c.from_residual-in_err-body.ensures.1 in rw (p.1, p.2) (r.fails_behind c.in_ok-sign.ensures.ok (r.fails_behind c.in_ok-name.ensures.ok (r.fails_behind c.in_ok-sections.ensures.ok (r.body_fails x.EndProgram tt (refl, tt) c.in_err-body.ensures.err))))
+
+pub returns-clause-ok : goal.returns-clause-ok
+unfolding w.program
+returns-clause-ok c = r.parses_at x.Program _ c.line-line.ensures (r.behind c.in_ok-sign.ensures.ok (r.behind c.in_ok-name.ensures.ok (r.behind c.in_ok-sections.ensures.ok (r.body_parses x.EndProgram tt (refl, tt) _ c.in_ok-body.ensures.ok))))
