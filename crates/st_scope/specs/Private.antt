@@ -2,3 +2,4 @@
 pub mod Places
 pub mod Climb
 pub mod Tables
+pub mod Scope

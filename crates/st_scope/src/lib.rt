@@ -3,6 +3,8 @@
 
 mod climb;
 mod places;
+mod scope;
 mod tables;
 
+pub use scope::Scope;
 pub use tables::NameTables;
