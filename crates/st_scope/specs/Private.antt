@@ -3,3 +3,4 @@ pub mod Places
 pub mod Climb
 pub mod Tables
 pub mod Scope
+pub mod Enumerators

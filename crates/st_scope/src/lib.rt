@@ -2,6 +2,7 @@
 #![tactic(auto)]
 
 mod climb;
+mod enumerators;
 mod places;
 mod scope;
 mod tables;

@@ -24,7 +24,7 @@ use st_rules::{
 use std::alloc::Global;
 use std::marker::Model;
 
-fn value_names(part: &TypeParts) -> &[Text]
+pub fn value_names(part: &TypeParts) -> &[Text]
     ensures { result.now ≡ scope.value_names part.now }
 {
     match part {
