@@ -1,6 +1,6 @@
 -- A name stands in one enumeration alone where the first that has it is the last.
-use Rattle.std.proofs.Common.{◌≡◌, ◌≤◌, ℕ, zero, suc, ◌+◌, nat_eq, Bool, true, false, List, [], ◌∷◌, ◌++◌, Option, Some, None, refl, sym, ap, ◌∙◌, arith, add-one, subst}
-use Rattle.std.specs.Prelude.{if◌then◌else◌, option_map, option_and_then, slice_get, ◌||◌}
+use Rattle.std.proofs.Common.{◌≡◌, ◌≤◌, ℕ, zero, suc, ◌+◌, nat_eq, Bool, true, false, List, [], ◌∷◌, ◌++◌, Option, Some, None, refl, sym, ap, ◌∙◌, arith, add-one}
+use Rattle.std.specs.Prelude.{if◌then◌else◌, option_map, option_and_then, ◌||◌}
 use Rattle.std.specs.List.{list_any}
 use Rattle.std.proofs.lemmas.Bool.{eqb-true, eq-eqb}
 use Rattle.plc_text.specs.Words.{same}
@@ -103,6 +103,7 @@ module _ (name : List ℕ) where
     where
       wider : (o : Option ℕ) → Later (i + 1) o → Later i o
       wider o h = let l = h.2 in (h.0, h.1, omega (arith, l))
+
       at : (b : Bool) → (if b then Some i else first_having (i + 1) ps name) ≡ Some n → (first_having (i + 1) ps name ≡ Some n → Later (i + 1) (last_having before (i + 1) ps name)) → Later i (last_having (if b then Some i else before) (i + 1) ps name)
       at true h f = last_stays i (i + 1) ps (Some i) (omega arith) (i, refl, omega arith)
       at false h f = wider _ (f h)

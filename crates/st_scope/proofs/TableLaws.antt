@@ -1,14 +1,19 @@
 -- What tables hold is what a scope says.
-use Rattle.std.proofs.Common.{◌≡◌, ℕ, suc, ◌+◌, Bool, List, [], ◌∷◌, Option, Some, None, refl, sym, ap, ◌∙◌, add-one, length, Bor}
-use Rattle.std.specs.Prelude.{option_map, filter, MatchOption}
+use Rattle.std.proofs.Common.{◌≡◌, ℕ, suc, ◌+◌, List, [], ◌∷◌, Option, Some, None, refl, sym, ap, ◌∙◌, add-one, length, Bor}
+use Rattle.std.specs.Prelude.{option_map, option_and_then, slice_get, filter, MatchOption}
+use Rattle.st_rules.specs.declared.names.TypeParts.{TypeParts}
 use Rattle.st_rules.specs.declared.names.DeclaredVariable.{DeclaredVariable}
 use Rattle.st_rules.specs.Chains.{nearest, climb, ◌or_else◌}
 use Rattle.st_rules.specs.Classes.{base_of, chain}
-use Rattle.st_rules.specs.Scope.{Scope, first_named, variables_of, parts_of, instance_variable, instance_entry, is_of_instance, is_inherited, base_entry, of_class, variable_named, value_names, field_list}
+use Rattle.st_rules.specs.Scope.{Scope, first_named, variables_of, parts_of, instance_variable, instance_entry, is_of_instance, is_inherited, base_entry, of_class, variable_named, value_names, value_named, value_of, enumerator_meaning, only_enumerator, an_enumerator}
 use Rattle.st_scope.specs.Tables.{Told, Holds}
 use Rattle.st_scope.specs.declared.places.Which.TheVariants.{All, Inherited, OfInstance}
 use Rattle.st_scope.specs.Private.Places.{items_at, passes}
 use Rattle.st_scope.specs.Private.Climb.{upward, base_in, own, own_with_class}
+use Rattle.st_rules.specs.Named.{first_place}
+use Rattle.st_rules.specs.Numbered.{each_numbered}
+use Rattle.st_scope.specs.Private.Enumerators.{first_having, last_having, lone}
+use Rattle.st_scope.proofs.EnumeratorLaws.{enumerator_alone}
 use Rattle.st_scope.proofs.PlaceLaws.{all_pass}
 use Rattle.st_scope.proofs.ClimbLaws.{upward_is, climb_same, nearest_same}
 
@@ -56,3 +61,24 @@ module _ (t : Told) (s : Scope) (holds : Holds t s) where
 pub with_class : (o : Option (ℕ × DeclaredVariable)) (found : Option (ℕ × Bor DeclaredVariable)) → MatchOption found (o ≡ None) (λ x. o ≡ Some (x.0, x.1.now)) → MatchOption found (option_map some_class o ≡ None) (λ x. option_map some_class o ≡ Some (Some x.0, x.1.now))
 with_class o None h = ap (option_map some_class) h
 with_class o (Some x) h = ap (option_map some_class) h
+
+parts_here : (s : Scope) (n : ℕ) → items_at value_names s.names.parts n ≡ value_names (parts_of s n)
+parts_here s n = at (slice_get s.names.parts n) refl
+  where
+    at : (o : Option TypeParts) → slice_get s.names.parts n ≡ o → items_at value_names s.names.parts n ≡ value_names (parts_of s n)
+    at None e = rw e refl
+    at (Some p) e = rw e refl
+
+value_here : (s : Scope) (name : List ℕ) (o : Option ℕ) → option_and_then (λ n. option_map (an_enumerator n) (first_place name (items_at value_names s.names.parts n))) o ≡ option_and_then (λ n. option_map (an_enumerator n) (value_of s n name)) o
+value_here s name None = refl
+value_here s name (Some n) = ap (λ ns. option_map (an_enumerator n) (first_place name ns)) (parts_here s n)
+
+-- the enumeration that has the name alone, and its value
+pub enumerator_is : (t : Told) (s : Scope) (name : List ℕ) → Holds t s → (first last : Option ℕ) → first ≡ first_having 0 t.names.parts name → last ≡ last_having None 0 t.names.parts name
+    → (o : Option ℕ) → o ≡ lone first last → enumerator_meaning s name ≡ option_and_then (λ n. option_map (an_enumerator n) (value_of s n name)) o
+enumerator_is t s name holds first last f l o e =
+    ap (λ n. only_enumerator (each_numbered (value_named name) 0 n.parts)) holds.names
+    ∙ enumerator_alone name t.names.parts
+    ∙ ap (λ n. option_and_then (λ k. option_map (an_enumerator k) (first_place name (items_at value_names t.names.parts k))) n) (ap (λ x. lone x (last_having None 0 t.names.parts name)) (sym f) ∙ ap (lone first) (sym l) ∙ sym e)
+    ∙ ap (λ n. option_and_then (λ k. option_map (an_enumerator k) (first_place name (items_at value_names n.parts k))) o) (sym holds.names)
+    ∙ value_here s name o

@@ -14,12 +14,7 @@ use std::alloc::Global;
 use std::collections::HashMap;
 
 /// Notes the number for each of the names.
-fn note_all(
-    alloc: Global,
-    table: &mut Numbers,
-    names: &[Text],
-    number: u32,
-) -> Result<(), NoMemory>
+fn note_all(alloc: Global, table: &mut Numbers, names: &[Text], number: u32) -> Result<(), NoMemory>
     ensures { OnOk result ((name : List ℕ) → places.found_in table.new name ≡ (if list_any (λ n. same n name) names.now then Some number else places.found_in table.old name)) }
 {
     let mut i = names.len();

@@ -1,12 +1,14 @@
 //! What is in scope where a text stands.
 
-ghost use Rattle.std.specs.Prelude.{◌≡◌, true, List, IfOk, MatchOption, None, Some};
+ghost use Rattle.std.specs.Prelude.{◌≡◌, IfOk, MatchOption, None, Some, option_map};
+ghost use Rattle.st_rules.specs.Scope as scope;
+ghost use Rattle.st_scope.specs.Meant.{meant};
 
 use crate::places::{Places, Which, variables};
 use crate::tables::NameTables;
 use class_tables::ClassTables;
 use plc_text::NoMemory;
-use st_rules::DeclaredVariable;
+use st_rules::{DeclaredGlobal, DeclaredRoutine, DeclaredVariable, MethodId};
 use std::alloc::Global;
 use std::marker::Model;
 
@@ -40,4 +42,26 @@ impl<'a> Model for Scope<'a> {
     ghost view = { λ s. record { classes = classes_in s.classes.now.decls; interfaces = interfaces_in s.classes.now.decls; names = s.names.now.names; class = s.class; in_method = s.in_method; locals = s.locals.now } };
 
     ghost invariant = { λ s. Sees s.names.now (classes_in s.classes.now.decls) s.locals.now s.places };
+}
+
+/// What a name means.
+pub enum Meant<'a> {
+    /// A variable or a constant, with the class that declares it, where it is one of a class.
+    Variable(Option<u32>, &'a DeclaredVariable),
+    /// A method of the own class.
+    Method(MethodId),
+    /// With its number among the functions.
+    Function(u32, &'a DeclaredRoutine),
+    /// The number of the enumeration, and that of the value in it.
+    Enumerator(u32, u32),
+}
+
+fn global_meaning(global: Option<&DeclaredGlobal>) -> Option<Meant<'_>>
+    ensures { meant result ≡ option_map (λ g. scope.global_meaning g.now) global.entry }
+{
+    match global {
+        Some(DeclaredGlobal::Variable(v)) => Some(Meant::Variable(None, v)),
+        Some(DeclaredGlobal::Function(k, r)) => Some(Meant::Function(*k, r)),
+        None => None,
+    }
 }

@@ -10,10 +10,12 @@ ghost use Rattle.st_rules.specs.Classes.{chain};
 ghost use Rattle.st_rules.specs.Scope as scope;
 ghost use Rattle.st_rules.specs.Scope.{first_named, Scope as AScope};
 ghost use Rattle.st_scope.specs.Tables.{Holds};
+ghost use Rattle.st_scope.specs.Private.Enumerators as enumerators;
 ghost use Rattle.st_scope.specs.Private.Places as places;
 ghost use Rattle.st_scope.specs.Private.Places.{IsTableOf, AreTables, items_at};
 
 use crate::climb::{nearest_variable, own_variable, tables_of};
+use crate::enumerators::{first_enumerations, last_enumerations};
 use crate::places::{
     Numbers, Places, Which, fields, global_variables, globals, number_of, place_of, types, values,
 };
@@ -154,6 +156,16 @@ fn field_at<'a>(
     }
 }
 
+/// The first enumeration where it is the last.
+fn lone(first: Option<u32>, last: Option<u32>) -> Option<u32>
+    ensures { result ≡ enumerators.lone first last }
+{
+    match (first, last) {
+        (Some(n), Some(m)) => { if n == m { Some(n) } else { None } }
+        _ => None,
+    }
+}
+
 /// The names of a unit, found by hash, on cycles of bases too. Contracts see what the unit declares, and the base of each class.
 #[derive(Drop)]
 pub struct NameTables {
@@ -162,6 +174,8 @@ pub struct NameTables {
     types: Places,
     globals: Places,
     variables: Places,
+    first: Numbers,
+    last: Numbers,
     values: Vec<Numbers>,
     fields: Vec<Numbers>,
     all: Vec<Places>,
@@ -181,7 +195,7 @@ impl Model for NameTables {
 
     ghost view = { λ t. record { names = t.names; bases = t.bases.items } };
 
-    ghost invariant = { λ t. AreNameTables t.names t.types t.globals t.variables t.values.items t.fields.items t.all.items t.inherited.items t.of_instance.items };
+    ghost invariant = { λ t. AreNameTables t.names t.types t.globals t.variables t.first t.last t.values.items t.fields.items t.all.items t.inherited.items t.of_instance.items };
 }
 
 impl NameTables {
@@ -196,6 +210,8 @@ impl NameTables {
         let types = types(alloc, names.types.as_slice())?;
         let globals_table = globals(alloc, names.globals.as_slice())?;
         let variables = global_variables(alloc, names.globals.as_slice())?;
+        let first = first_enumerations(alloc, names.parts.as_slice())?;
+        let last = last_enumerations(alloc, names.parts.as_slice())?;
         let values = values_of(alloc, names.parts.as_slice())?;
         let fields = fields_of(alloc, names.parts.as_slice())?;
         let all = tables_of(alloc, names.classes.as_slice(), Which::All)?;
@@ -207,6 +223,8 @@ impl NameTables {
             types,
             globals: globals_table,
             variables,
+            first,
+            last,
             values,
             fields,
             all,
@@ -292,6 +310,20 @@ impl NameTables {
         match self.own_variable(class, name) {
             Some(v) => Some((class, v)),
             None => self.inherited(class, name),
+        }
+    }
+
+    /// The one enumeration that has a value of the name, and the number of the value.
+    pub fn enumerator(&self, name: &Text) -> Option<(u32, u32)>
+        ensures { (s : AScope) → Holds self.now s → MatchOption result (scope.enumerator_meaning s name.now ≡ None) (λ x. scope.enumerator_meaning s name.now ≡ Some (scope.an_enumerator x.0 x.1)) }
+    {
+        let only = lone(number_of(&self.first, name), number_of(&self.last, name));
+        match only {
+            Some(n) => match self.value_of(n, name) {
+                Some(k) => Some((n, k)),
+                None => None,
+            },
+            None => None,
         }
     }
 }

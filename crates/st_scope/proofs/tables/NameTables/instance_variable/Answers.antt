@@ -1,7 +1,6 @@
 use Rattle.std.proofs.Common.{◌≡◌, ℕ, ◌+◌, Option, Some, None, subst, ap, ◌∙◌, length}
 use Rattle.std.specs.Prelude.{MatchOption}
 use Rattle.st_rules.specs.declared.names.DeclaredVariable.{DeclaredVariable}
-use Rattle.st_rules.specs.Scope.{instance_variable}
 use Rattle.st_scope.specs.Tables.{Told}
 use Rattle.st_scope.specs.declared.places.Which.TheVariants.{OfInstance}
 use Rattle.st_scope.specs.Private.Places.{passes}
