@@ -1,80 +1,16 @@
-//! Elementary kinds: widening, and the kinds that operators take.
+//! Elementary kinds that operators take.
 
 ghost use Rattle.std.specs.Prelude.{◌≡◌};
 ghost use Rattle.st_rules.specs.Kinds as kinds;
 
 use st_tree::Operator;
-use st_types::Elem;
-
-/// The order in which two operands take a kind.
-const ORDER: [Elem; 14] = [
-    Elem::Sint,
-    Elem::Usint,
-    Elem::Int,
-    Elem::Uint,
-    Elem::Dint,
-    Elem::Udint,
-    Elem::Lint,
-    Elem::Ulint,
-    Elem::Byte,
-    Elem::Word,
-    Elem::Dword,
-    Elem::Lword,
-    Elem::Bool,
-    Elem::Time,
-];
-
-/// Whether a value of the first kind widens to the second, or is of it.
-pub fn reaches(from: Elem, to: Elem) -> bool
-    ensures { result ≡ kinds.reaches from to }
-{
-    match from {
-        Elem::Sint => matches!(to, Elem::Sint | Elem::Int | Elem::Dint | Elem::Lint),
-        Elem::Int => matches!(to, Elem::Int | Elem::Dint | Elem::Lint),
-        Elem::Dint => matches!(to, Elem::Dint | Elem::Lint),
-        Elem::Lint => matches!(to, Elem::Lint),
-        Elem::Usint => matches!(
-            to,
-            Elem::Usint
-                | Elem::Uint
-                | Elem::Udint
-                | Elem::Ulint
-                | Elem::Int
-                | Elem::Dint
-                | Elem::Lint
-        ),
-        Elem::Uint => matches!(
-            to,
-            Elem::Uint | Elem::Udint | Elem::Ulint | Elem::Dint | Elem::Lint
-        ),
-        Elem::Udint => matches!(to, Elem::Udint | Elem::Ulint | Elem::Lint),
-        Elem::Ulint => matches!(to, Elem::Ulint),
-        Elem::Byte => matches!(to, Elem::Byte | Elem::Word | Elem::Dword | Elem::Lword),
-        Elem::Word => matches!(to, Elem::Word | Elem::Dword | Elem::Lword),
-        Elem::Dword => matches!(to, Elem::Dword | Elem::Lword),
-        Elem::Lword => matches!(to, Elem::Lword),
-        Elem::Bool => matches!(to, Elem::Bool),
-        Elem::Time => matches!(to, Elem::Time),
-    }
-}
+use st_types::{Elem, widen};
 
 /// The kind that two operands take: the first that both reach.
-#[tactic(auto, unfolding(st_rules::specs::Kinds::common_kind))]
 pub fn common_kind(a: Elem, b: Elem) -> Option<Elem>
     ensures { result ≡ kinds.common_kind a b }
 {
-    first_reached(a, b, &ORDER)
-}
-
-fn first_reached(a: Elem, b: Elem, order: &[Elem]) -> Option<Elem>
-    ensures { result ≡ kinds.first_reached a b order.now }
-{
-    for k in order {
-        if reaches(a, *k) && reaches(b, *k) {
-            return Some(*k);
-        }
-    }
-    None
+    widen(a, b)
 }
 
 pub fn is_bool(e: Elem) -> bool

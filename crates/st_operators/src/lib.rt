@@ -10,8 +10,8 @@ mod tests;
 mod types;
 
 pub use kinds::{
-    common_kind, gives_bool, is_arithmetic, is_bool, is_number, is_time, reaches, takes,
-    takes_minus, takes_not,
+    common_kind, gives_bool, is_arithmetic, is_bool, is_number, is_time, takes, takes_minus,
+    takes_not,
 };
 pub use literals::{
     asked_of, duration_fault, int_fault, int_type, literal_fault, literal_type, negative_fault,

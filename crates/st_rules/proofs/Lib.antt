@@ -10,4 +10,5 @@ pub mod InterfaceLaws
 pub mod SignatureLaws
 mod Examples
 pub mod RowLaws
+pub mod KindLaws
 mod ExpressionExamples

@@ -17,7 +17,7 @@ use Rattle.st_tree.specs.declared.declaration.InterfaceDecl.{InterfaceDecl}
 use Rattle.st_rules.specs.Types.{same_kind, same_type}
 use Rattle.st_rules.specs.Interfaces.{extends, conforms}
 
--- ---- widening
+-- ---- widening, as it is computed: `widening_laws` proves it to be the relation of st_types
 
 -- the kinds to which a kind widens, in any number of steps
 abbrev pub wider : Elem → List Elem

@@ -13,6 +13,7 @@ mod rows;
 mod signature;
 #[cfg(test)]
 mod tests;
+mod widening;
 
 pub use asked::Asked;
 pub use faults::{at, earlier, when};
@@ -30,3 +31,4 @@ pub use rows::row_laws;
 pub use signature::{
     Parameter, ResultType, Signature, Signatures, differs_from_hook, is_hook, same_signature,
 };
+pub use widening::widening_laws;

@@ -1,13 +1,9 @@
 -- A search upward that stops by a count finds what the chain gives, which stops before a class that it holds.
 use Rattle.std.proofs.Common.{◌≡◌, ◌<◌, ℕ, zero, suc, ◌+◌, ◌-◌, nat_eq, Bool, true, false, List, [], ◌∷◌, ◌++◌, Option, Some, None, refl, sym, ap, ◌∙◌, arith, length, subst, ◌⊎◌, inl, inr, take, get_or, add-one}
 use Rattle.std.proofs.Math.Seq.{take-suc}
-use Rattle.std.specs.Prelude.{option_and_then, option_map, slice_get, if◌then◌else◌, ◌||◌, filter}
-use Rattle.std.specs.List.{list_any}
+use Rattle.std.specs.Prelude.{option_and_then, slice_get, if◌then◌else◌, ◌||◌}
 use Rattle.std.proofs.lemmas.Bool.{eqb-true, eq-eqb}
-use Rattle.st_rules.specs.declared.names.DeclaredVariable.{DeclaredVariable}
-use Rattle.st_rules.specs.declared.names.DeclaredClass.{DeclaredClass}
 use Rattle.st_rules.specs.Chains.{is_among, ◌or_else◌, nearest, climb}
-use Rattle.st_rules.specs.Scope.{first_named}
 use Rattle.st_scope.specs.Private.Places.{Table, IsTableOf, AreTables, items_at}
 use Rattle.st_scope.specs.Private.Climb.{upward}
 

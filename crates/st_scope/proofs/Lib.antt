@@ -1,2 +1,4 @@
 pub mod PlaceLaws
 pub mod ClimbLaws
+pub mod TableLaws
+pub mod EnumeratorLaws

@@ -1,6 +1,6 @@
 -- What a table of places finds is the first of the name that passes.
-use Rattle.std.proofs.Common.{◌≡◌, ℕ, zero, suc, ◌+◌, Bool, true, false, List, [], ◌∷◌, Option, Some, None, refl, sym, ap, ◌∙◌, add-one, arith}
-use Rattle.std.specs.Prelude.{◌&&◌, ◌||◌, if◌then◌else◌, filter, option_map, option_and_then, slice_get, MatchOption}
+use Rattle.std.proofs.Common.{◌≡◌, ℕ, suc, ◌+◌, Bool, true, false, List, [], ◌∷◌, Option, Some, None, refl, sym, ap, ◌∙◌, add-one, arith}
+use Rattle.std.specs.Prelude.{◌&&◌, ◌||◌, if◌then◌else◌, filter, option_map, option_and_then, slice_get}
 use Rattle.plc_text.specs.Words.{same}
 use Rattle.st_rules.specs.Named.{first_place}
 use Rattle.st_rules.specs.declared.names.DeclaredField.{DeclaredField}
@@ -40,7 +40,7 @@ module _ {X : Type 0} (name_of : X → List ℕ) (test : X → Bool) where
   found_passing table xs name o is e = ap (option_and_then (slice_get xs)) (e ∙ is.finds name) ∙ first_passing xs name
 
 module _ {X : Type 0} (name_of : X → List ℕ) where
-  all_pass : (xs : List X) → filter (λ x. true) xs ≡ xs
+  pub all_pass : (xs : List X) → filter (λ x. true) xs ≡ xs
   all_pass [] = refl
   all_pass (x ∷ xs) = ap (λ ys. x ∷ ys) (all_pass xs)
 

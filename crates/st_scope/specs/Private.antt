@@ -2,3 +2,5 @@
 pub mod Places
 pub mod Climb
 pub mod Tables
+pub mod Scope
+pub mod Enumerators

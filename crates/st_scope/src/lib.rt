@@ -2,7 +2,10 @@
 #![tactic(auto)]
 
 mod climb;
+mod enumerators;
 mod places;
+mod scope;
 mod tables;
 
+pub use scope::Scope;
 pub use tables::NameTables;

@@ -83,7 +83,7 @@ pub fn types(alloc: Global, all: &[DeclaredType]) -> Result<Places, NoMemory>
     Ok(table)
 }
 
-fn narrowed(place: usize) -> Result<u32, NoMemory>
+pub fn narrowed(place: usize) -> Result<u32, NoMemory>
     ensures { IfOk result (λ n. n ≡ place) }
 {
     match u32::try_from(place) {

@@ -5,21 +5,28 @@ ghost use Rattle.std.specs.List.{list_any};
 ghost use Rattle.st_rules.specs.declared.names.DeclaredGlobal.{DeclaredGlobal as AGlobal};
 ghost use Rattle.st_rules.specs.declared.names.TypeParts.{TypeParts as Parts};
 ghost use Rattle.st_rules.specs.Named.{first_place};
+ghost use Rattle.st_rules.specs.Chains.{nearest};
+ghost use Rattle.st_rules.specs.Classes.{chain};
 ghost use Rattle.st_rules.specs.Scope as scope;
-ghost use Rattle.st_rules.specs.Scope.{first_named};
+ghost use Rattle.st_rules.specs.Scope.{first_named, Scope as AScope};
+ghost use Rattle.st_scope.specs.Tables.{Holds};
+ghost use Rattle.st_scope.specs.Private.Enumerators as enumerators;
 ghost use Rattle.st_scope.specs.Private.Places as places;
 ghost use Rattle.st_scope.specs.Private.Places.{IsTableOf, AreTables, items_at};
 
-use crate::climb::tables_of;
+use crate::climb::{nearest_variable, own_variable, tables_of};
+use crate::enumerators::{first_enumerations, last_enumerations};
 use crate::places::{
     Numbers, Places, Which, fields, global_variables, globals, number_of, place_of, types, values,
 };
 use plc_text::{NoMemory, Text};
-use st_rules::{DeclaredField, DeclaredGlobal, DeclaredNames, DeclaredType, TypeParts};
+use st_rules::{
+    DeclaredField, DeclaredGlobal, DeclaredNames, DeclaredType, DeclaredVariable, TypeParts,
+};
 use std::alloc::Global;
 use std::marker::Model;
 
-fn value_names(part: &TypeParts) -> &[Text]
+pub fn value_names(part: &TypeParts) -> &[Text]
     ensures { result.now ≡ scope.value_names part.now }
 {
     match part {
@@ -149,6 +156,16 @@ fn field_at<'a>(
     }
 }
 
+/// The first enumeration where it is the last.
+fn lone(first: Option<u32>, last: Option<u32>) -> Option<u32>
+    ensures { result ≡ enumerators.lone first last }
+{
+    match (first, last) {
+        (Some(n), Some(m)) => { if n == m { Some(n) } else { None } }
+        _ => None,
+    }
+}
+
 /// The names of a unit, found by hash, on cycles of bases too. Contracts see what the unit declares, and the base of each class.
 #[derive(Drop)]
 pub struct NameTables {
@@ -157,6 +174,8 @@ pub struct NameTables {
     types: Places,
     globals: Places,
     variables: Places,
+    first: Numbers,
+    last: Numbers,
     values: Vec<Numbers>,
     fields: Vec<Numbers>,
     all: Vec<Places>,
@@ -176,7 +195,7 @@ impl Model for NameTables {
 
     ghost view = { λ t. record { names = t.names; bases = t.bases.items } };
 
-    ghost invariant = { λ t. AreNameTables t.names t.types t.globals t.variables t.values.items t.fields.items t.all.items t.inherited.items t.of_instance.items };
+    ghost invariant = { λ t. AreNameTables t.names t.types t.globals t.variables t.first t.last t.values.items t.fields.items t.all.items t.inherited.items t.of_instance.items };
 }
 
 impl NameTables {
@@ -191,6 +210,8 @@ impl NameTables {
         let types = types(alloc, names.types.as_slice())?;
         let globals_table = globals(alloc, names.globals.as_slice())?;
         let variables = global_variables(alloc, names.globals.as_slice())?;
+        let first = first_enumerations(alloc, names.parts.as_slice())?;
+        let last = last_enumerations(alloc, names.parts.as_slice())?;
         let values = values_of(alloc, names.parts.as_slice())?;
         let fields = fields_of(alloc, names.parts.as_slice())?;
         let all = tables_of(alloc, names.classes.as_slice(), Which::All)?;
@@ -202,6 +223,8 @@ impl NameTables {
             types,
             globals: globals_table,
             variables,
+            first,
+            last,
             values,
             fields,
             all,
@@ -215,5 +238,92 @@ impl NameTables {
         ensures { MatchOption result (scope.type_named name.now self.now.names.types ≡ None) (λ t. scope.type_named name.now self.now.names.types ≡ Some t.now) }
     {
         type_at(&self.types, self.names.types.as_slice(), name)
+    }
+
+    /// The first global or function of the name.
+    pub fn global_named(&self, name: &Text) -> Option<&DeclaredGlobal>
+        ensures { MatchOption result (first_named scope.global_name name.now self.now.names.globals ≡ None) (λ g. first_named scope.global_name name.now self.now.names.globals ≡ Some g.now) }
+    {
+        global_at(&self.globals, self.names.globals.as_slice(), name)
+    }
+
+    /// Whether there is a global variable of the name.
+    pub fn has_global_variable(&self, name: &Text) -> bool
+        ensures { result ≡ list_any (scope.is_global_variable name.now) self.now.names.globals }
+    {
+        has_variable(&self.variables, name)
+    }
+
+    /// The number of a value in the enumeration that is this entry of TYPE.
+    pub fn value_of(&self, entry: u32, name: &Text) -> Option<u32>
+        ensures { (s : AScope) → Holds self.now s → result ≡ scope.value_of s entry name.now }
+    {
+        value_at(&self.values, entry, name)
+    }
+
+    /// A field of the structure that is this entry of TYPE, with its number.
+    pub fn field_named(&self, entry: u32, name: &Text) -> Option<(u32, &DeclaredField)>
+        ensures { (s : AScope) → Holds self.now s → MatchOption result (scope.field_named s entry name.now ≡ None) (λ x. scope.field_named s entry name.now ≡ Some (x.0, x.1.now)) }
+    {
+        field_at(&self.fields, self.names.parts.as_slice(), entry, name)
+    }
+
+    /// The nearest variable of the name that an instance of the class has, with the class that declares it.
+    pub fn instance_variable(&self, class: u32, name: &Text) -> Option<(u32, &DeclaredVariable)>
+        ensures { (s : AScope) → Holds self.now s → MatchOption result (scope.instance_variable s class name.now ≡ None) (λ x. scope.instance_variable s class name.now ≡ Some (x.0, x.1.now)) }
+    {
+        nearest_variable(
+            &self.bases,
+            &self.of_instance,
+            self.names.classes.as_slice(),
+            class,
+            name,
+        )
+    }
+
+    /// The first variable of the name that a class declares itself, externals among them.
+    pub fn own_variable(&self, class: u32, name: &Text) -> Option<&DeclaredVariable>
+        ensures { (s : AScope) → Holds self.now s → MatchOption result (scope.variable_named name.now (scope.variables_of s class) ≡ None) (λ v. scope.variable_named name.now (scope.variables_of s class) ≡ Some v.now) }
+    {
+        own_variable(&self.all, self.names.classes.as_slice(), class, name)
+    }
+
+    /// The nearest variable of the name in the chain of a class, without externals, with the class that declares it.
+    fn inherited(&self, class: u32, name: &Text) -> Option<(u32, &DeclaredVariable)>
+        ensures { (s : AScope) → Holds self.now s → MatchOption result (nearest (scope.base_entry s name.now) (chain s.classes class) ≡ None)
+            (λ x. nearest (scope.base_entry s name.now) (chain s.classes class) ≡ Some (Some x.0, x.1.now)) }
+    {
+        nearest_variable(
+            &self.bases,
+            &self.inherited,
+            self.names.classes.as_slice(),
+            class,
+            name,
+        )
+    }
+
+    /// What a bare name means among the variables of a class and its bases, with the class that declares it: what the class declares
+    /// itself, externals among them, then what its bases leave to it.
+    pub fn class_entry(&self, class: u32, name: &Text) -> Option<(u32, &DeclaredVariable)>
+        ensures { (s : AScope) → Holds self.now s → MatchOption result (scope.class_entry s name.now (Some class) ≡ None) (λ x. scope.class_entry s name.now (Some class) ≡ Some (Some x.0, x.1.now)) }
+    {
+        match self.own_variable(class, name) {
+            Some(v) => Some((class, v)),
+            None => self.inherited(class, name),
+        }
+    }
+
+    /// The one enumeration that has a value of the name, and the number of the value.
+    pub fn enumerator(&self, name: &Text) -> Option<(u32, u32)>
+        ensures { (s : AScope) → Holds self.now s → MatchOption result (scope.enumerator_meaning s name.now ≡ None) (λ x. scope.enumerator_meaning s name.now ≡ Some (scope.an_enumerator x.0 x.1)) }
+    {
+        let only = lone(number_of(&self.first, name), number_of(&self.last, name));
+        match only {
+            Some(n) => match self.value_of(n, name) {
+                Some(k) => Some((n, k)),
+                None => None,
+            },
+            None => None,
+        }
     }
 }

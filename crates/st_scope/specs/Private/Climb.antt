@@ -1,5 +1,5 @@
 -- A search upward from a class, by a count of steps, and tables of the variables of classes.
-use Rattle.std.specs.Prelude.{ℕ, zero, suc, Bool, List, [], ◌∷◌, filter, Option, Some, None, option_map, option_and_then, slice_get}
+use Rattle.std.specs.Prelude.{ℕ, zero, suc, Bool, List, filter, Option, None, option_map, option_and_then, slice_get}
 use Rattle.st_rules.specs.declared.names.DeclaredVariable.{DeclaredVariable}
 use Rattle.st_rules.specs.declared.names.DeclaredClass.{DeclaredClass}
 use Rattle.st_rules.specs.Chains.{◌or_else◌}

@@ -1,7 +1,7 @@
 use Rattle.std.proofs.Common.{◌≡◌, ◌≤◌, ℕ, List, drop, length}
 use Rattle.std.specs.Prelude.{true}
 use Rattle.st_rules.specs.Scope.{global_name}
-use Rattle.st_scope.specs.Private.Places.{found_in, first_from, passes, is_variable}
+use Rattle.st_scope.specs.Private.Places.{found_in, first_from}
 use Rattle.st_scope.proofs.places.globals.Given as goal
 
 -- what is in the table is what the rest of the list has

@@ -1,4 +1,4 @@
-use Rattle.std.proofs.Common.{◌≡◌, ℕ, Option, Some, None, subst, ap, sym}
+use Rattle.std.proofs.Common.{◌≡◌, ℕ, Option, Some, None, subst, ap}
 use Rattle.std.specs.Prelude.{MatchOption, true}
 use Rattle.st_rules.specs.declared.names.DeclaredField.{DeclaredField}
 use Rattle.st_rules.specs.Scope.{field_list, field_from}
