@@ -1,0 +1,4 @@
+pub mod KindLaws
+pub mod Sound
+pub mod Ends
+pub mod OneResult

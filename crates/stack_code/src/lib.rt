@@ -1,0 +1,14 @@
+//! Code of the stack machine: what compiled programs are made of, what running it means, and which code is valid.
+#![tactic(auto)]
+
+mod code;
+mod machine;
+mod memory;
+mod op;
+mod validity;
+
+pub use code::{Body, Conformance, InterfaceTarget, MachineCode, MethodRoutine, RoutineCode};
+pub use machine::{Ending, Frame, Outcome, run_laws};
+pub use memory::{Address, Space, Word};
+pub use op::{Kind, Op};
+pub use validity::valid_run_laws;
