@@ -5,7 +5,6 @@ ghost use Rattle.stack_code.specs.declared.memory.Address.{Address};
 ghost use Rattle.stack_code.specs.declared.code.MachineCode.{MachineCode};
 ghost use Rattle.stack_code.specs.Machine.{machine, hook, HasOneResult};
 
-
 use crate::memory::Address;
 use plc_text::Fault;
 
@@ -42,5 +41,4 @@ pub enum Ending {
 pub fn run_laws()
     ensures bodies { (code : MachineCode) (regions : List (Option (List ℕ))) (entry now ticks : ℕ) → HasOneResult (machine code regions entry now ticks) }
     ensures hooks { (code : MachineCode) (regions : List (Option (List ℕ))) (k : ℕ) (own : Address) (first second : Bool) (ticks : ℕ) → HasOneResult (hook code regions k own first second ticks) }
-{
-}
+{}

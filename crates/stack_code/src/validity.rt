@@ -6,5 +6,4 @@ ghost use Rattle.stack_code.specs.Validity.{BodiesFinish, HooksFinish};
 pub fn valid_run_laws()
     ensures bodies { BodiesFinish }
     ensures hooks { HooksFinish }
-{
-}
+{}
