@@ -122,8 +122,8 @@ above (suc (suc (suc c))) d h = cc
 upward : (c d : ℕ) (t : StType) → IsTrue (conforms sample c (type.Instance d)) → IsTrue (conforms sample d t) → IsTrue (conforms sample c t)
 upward c d t h k =
     elim (above c d h) [
-    | inl e ↦ subst (λ z. IsTrue (conforms sample z t)) (sym e) k
-    | inr e ↦ subst (λ z. IsTrue (conforms sample z t)) (sym e.0) (from_base t (subst (λ z. IsTrue (conforms sample z t)) e.1 k))
+      | inl e ↦ subst (λ z. IsTrue (conforms sample z t)) (sym e) k
+      | inr e ↦ subst (λ z. IsTrue (conforms sample z t)) (sym e.0) (from_base t (subst (λ z. IsTrue (conforms sample z t)) e.1 k))
     ]
 
 same_variables : class_variables sample 0 ≡ class_variables sample 1
@@ -133,8 +133,8 @@ same_variables = refl
 variables_above : (c d k : ℕ) (v : Variable) → IsTrue (conforms sample c (type.Instance d)) → slice_get (class_variables sample d) k ≡ Some v → slice_get (class_variables sample c) k ≡ Some v
 variables_above c d k v h e =
     elim (above c d h) [
-    | inl q ↦ subst (λ z. slice_get (class_variables sample z) k ≡ Some v) (sym q) e
-    | inr q ↦ subst (λ z. slice_get (class_variables sample z) k ≡ Some v) (sym q.0) (ap (λ vs. slice_get vs k) (sym same_variables) ∙ subst (λ z. slice_get (class_variables sample z) k ≡ Some v) q.1 e)
+      | inl q ↦ subst (λ z. slice_get (class_variables sample z) k ≡ Some v) (sym q) e
+      | inr q ↦ subst (λ z. slice_get (class_variables sample z) k ≡ Some v) (sym q.0) (ap (λ vs. slice_get vs k) (sym same_variables) ∙ subst (λ z. slice_get (class_variables sample z) k ≡ Some v) q.1 e)
     ]
 
 -- ---- methods
@@ -162,8 +162,8 @@ methods_above : (c : ℕ) (name : List ℕ) (m : Routine) → lookup sample c na
 unfolding conforms
 methods_above c name m e =
     elim (found c name m e) [
-    | inl h ↦ subst (λ z. Above sample z m.class) (sym h.0) (subst (λ z. Above sample 0 z.class) h.1 refl)
-    | inr h ↦ subst (λ z. Above sample z m.class) (sym h.0) (subst (λ z. Above sample 1 z.class) h.1 refl)
+      | inl h ↦ subst (λ z. Above sample z m.class) (sym h.0) (subst (λ z. Above sample 0 z.class) h.1 refl)
+      | inr h ↦ subst (λ z. Above sample z m.class) (sym h.0) (subst (λ z. Above sample 1 z.class) h.1 refl)
     ]
 
 -- ---- what calls enter
@@ -206,11 +206,10 @@ unfolding class_variables
 first_is = record {
   locals = (local_is, (input_is, tt));
   parameters = ((x, refl, refl, λ e. tt, λ e. tt), tt);
-  body =
-      (
-        (((n, refl, refl), tt, refl), tt, (((n, refl, refl), tt, refl), (((x, refl, refl), tt, refl), (elem.Int, elem.Int, elem.Int, refl, refl, refl, itself, itself), refl)), same_type),
-        ((((result, refl, refl), tt, refl), tt, ((n, refl, refl), tt, refl), same_type), tt),
-      );
+  body = (
+    (((n, refl, refl), tt, refl), tt, (((n, refl, refl), tt, refl), (((x, refl, refl), tt, refl), (elem.Int, elem.Int, elem.Int, refl, refl, refl, itself, itself), refl)), same_type),
+    ((((result, refl, refl), tt, refl), tt, ((n, refl, refl), tt, refl), same_type), tt),
+  );
 }
 
 -- what is asked of a routine that a call with x enters
@@ -225,14 +224,15 @@ unfolding conforms lookup
 second_is = record {
   locals = (local_is, (input_is, tt));
   parameters = ((x, refl, refl, λ e. tt, λ e. tt), tt);
-  body =
-      (
-        (((result, refl, refl), tt, refl),
-        tt,
-        (tt, (((1, 0, refl, refl, refl), tt), tt, record { by = λ m e. subst (Fine second (var int (target.Local 1))) (entered m (by_super (a_method_from 0 (codes "M")) 0 (codes "M") m e refl)) first_fine })),
-        same_type),
-        tt,
-      );
+  body = (
+    (
+      ((result, refl, refl), tt, refl),
+      tt,
+      (tt, (((1, 0, refl, refl, refl), tt), tt, record { by = λ m e. subst (Fine second (var int (target.Local 1))) (entered m (by_super (a_method_from 0 (codes "M")) 0 (codes "M") m e refl)) first_fine })),
+      same_type,
+    ),
+    tt,
+  );
 }
   where
     entered : (m : Routine) → lookup sample 0 (codes "M") ≡ Some m → first ≡ m
@@ -254,15 +254,18 @@ unfolding class_variables lookup
 program_is = record {
   locals = tt;
   parameters = tt;
-  body =
+  body = (
+    (((r, refl, refl), tt, refl), tt, ((b1, refl, refl), tt, (1, refl, refl)), wider_path tt tt (record { by = derived_conforms })),
+    (
       (
-        (((r, refl, refl), tt, refl), tt, ((b1, refl, refl), tt, (1, refl, refl)), wider_path tt tt (record { by = derived_conforms })),
-        ((((y, refl, refl), tt, refl),
+        ((y, refl, refl), tt, refl),
         tt,
         (tt, (((r, refl, refl), (refl, tt)), tt, record { by = λ m e. let a = through (a_method_of (type.Instance 0) (codes "M")) (type.Instance 0) (codes "M") m e refl in called m a.0 (found a.0 (codes "M") m a.2) })),
-        same_type),
-        tt),
-      );
+        same_type,
+      ),
+      tt,
+    ),
+  );
 }
 
 methods_are : (c : ℕ) (name : List ℕ) (m : Routine) → lookup sample c name ≡ Some m → RoutineIs sample m
