@@ -3,3 +3,4 @@ mod Marks
 mod Shrinks
 mod Stopped
 mod Lists
+mod Settling

@@ -72,7 +72,7 @@ fn class(
     alloc: Global,
     text: &str,
     base: Option<&str>,
-    sections: Items<Section<Note>>,
+    members: Items<Member<Note>>,
 ) -> Result<ClassDecl<Note>, NoMemory> {
     let base = match base {
         Some(base) => Some(Used {
@@ -81,11 +81,6 @@ fn class(
         }),
         None => None,
     };
-    let mut sections = sections;
-    let mut members = Items::new(alloc);
-    while !sections.is_empty() {
-        members.push(Member::Section(sections.remove(0)))?;
-    }
     Ok(ClassDecl {
         line: 1,
         sort: ClassSort::Class,
@@ -140,7 +135,7 @@ fn structure(alloc: Global) -> Result<TypeDecl<Note>, NoMemory> {
 /// `CLASS A VAR n : INT := 5; END_VAR END_CLASS`
 fn base(alloc: Global) -> Result<ClassDecl<Note>, NoMemory> {
     let n = section(alloc, SectionSort::Var, "N", int(), Some(value(5)))?;
-    class(alloc, "A", None, one(alloc, n)?)
+    class(alloc, "A", None, one(alloc, Member::Section(n))?)
 }
 
 /// A class with a constant and a temporary variable between its variables:
@@ -148,16 +143,25 @@ fn base(alloc: Global) -> Result<ClassDecl<Note>, NoMemory> {
 fn derived(alloc: Global) -> Result<ClassDecl<Note>, NoMemory> {
     let mut constant = section(alloc, SectionSort::Var, "C", int(), Some(value(9)))?;
     constant.modifiers = one(alloc, Modifier::Constant)?;
-    let mut sections = one(alloc, constant)?;
+    let mut members = one(alloc, Member::Section(constant))?;
     let row = StType::Array(1, 4, Boxed::new(alloc, int())?);
-    sections.push(section(alloc, SectionSort::Output, "LIST", row, Some(list(alloc)?))?)?;
-    let reference = StType::Reference(0);
-    sections.push(section(alloc, SectionSort::Var, "R", reference, None)?)?;
-    sections.push(section(alloc, SectionSort::Temp, "T", int(), None)?)?;
+    let values = list(alloc)?;
+    let list = section(alloc, SectionSort::Output, "LIST", row, Some(values))?;
+    members.push(Member::Section(list))?;
+    let reference = section(alloc, SectionSort::Var, "R", StType::Reference(0), None)?;
+    members.push(Member::Section(reference))?;
+    let temporary = section(alloc, SectionSort::Temp, "T", int(), None)?;
+    members.push(Member::Section(temporary))?;
     let given = fields(alloc, "G", 3)?;
-    let s = StType::Structure(0);
-    sections.push(section(alloc, SectionSort::Input, "S", s, Some(given))?)?;
-    class(alloc, "B", Some("A"), sections)
+    let s = section(
+        alloc,
+        SectionSort::Input,
+        "S",
+        StType::Structure(0),
+        Some(given),
+    )?;
+    members.push(Member::Section(s))?;
+    class(alloc, "B", Some("A"), members)
 }
 
 /// `PROGRAM P VAR b : B := (n := 6); END_VAR VAR m : Mode := Run; END_VAR END_PROGRAM`
