@@ -5,4 +5,3 @@ mod Count
 mod Blocks
 mod Outputs
 mod Depth
-mod Promised

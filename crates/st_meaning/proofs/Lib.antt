@@ -2,14 +2,3 @@ pub mod Builder
 pub mod Examples
 pub mod Ticks
 pub mod Faults
-pub mod Footprints
-pub mod Values
-pub mod Unfolded
-pub mod OfTypes
-pub mod Spots
-pub mod Obeys
-pub mod Bodies
-pub mod Effects
-pub mod Entered
-pub mod Whole
-pub mod Frame

@@ -14,7 +14,6 @@ use Rattle.st_meaning.specs.Loop.{Flow, turn, turn_until, loop, loop_until}
 use Rattle.st_meaning.specs.Statement.{effects}
 use Rattle.st_meaning.specs.Enter.{enter, run_task}
 use Rattle.st_meaning.specs.Cycle.{cycle}
-use Rattle.st_meaning.specs.Footprint.{Footprint, Writes, IsFootprint}
 
 -- no ticks are made
 abbrev pub NoMore : {A : Type 0} → ℕ → Outcome A → Type 0
@@ -39,9 +38,3 @@ pub record LoopsUnroll : Type 0 where
 -- a cycle that faults leaves the store
 abbrev pub FaultsLeave : Type 0
 FaultsLeave = (p : Program) (fs : List ℕ) (task now : ℕ) (input : List ℕ) (s : Store) (f : FaultAt) → (cycle p fs task now input s).0 ≡ reply.Fault f → (cycle p fs task now input s).1 ≡ s
-
-pub record FootprintLaws : Type 0 where
-  -- what is written is in the footprint
-  pub writes_read : (p : Program) (task r : ℕ) → Writes p task r → Footprint p task r
-  -- a cycle does not hang on how the footprint is listed
-  pub one_cycle : (p : Program) (task : ℕ) (fs gs : List ℕ) (now : ℕ) (input : List ℕ) (s : Store) → IsFootprint p task fs → IsFootprint p task gs → cycle p fs task now input s ≡ cycle p gs task now input s

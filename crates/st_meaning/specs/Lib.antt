@@ -8,10 +8,4 @@ pub mod Statement
 pub mod Enter
 pub mod ProcessImage
 pub mod Cycle
-pub mod Good
-pub mod Use
-pub mod Footprint
-pub mod Promise
 pub mod Laws
-pub mod GoodLaws
-pub mod FrameLaws

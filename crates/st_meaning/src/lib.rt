@@ -1,7 +1,6 @@
-//! What a checked program means: values and places of expressions, effects of statements, calls, cycles of tasks, good stores, and which
-//! regions a task touches.
+//! What a checked program means: values and places of expressions, effects of statements, calls and cycles of tasks.
 #![tactic(auto)]
 
 mod laws;
 
-pub use laws::{footprint_laws, frame_laws, good_laws, run_laws};
+pub use laws::run_laws;

@@ -1,6 +1,6 @@
 -- A program without marks that changes to itself: each variable comes from itself, so what is carried to its own place is what was there.
-use Rattle.std.proofs.Common.{◌≡◌, ℕ, zero, suc, ℤ, pos, Bool, true, false, List, [], ◌∷◌, Option, Some, None, refl, sym, ap, ◌∙◌, subst}
-use Rattle.std.specs.Prelude.{codes, slice_get}
+use Rattle.std.proofs.Common.{◌≡◌, ℕ, zero, suc, pos, List, [], ◌∷◌, Option, Some, refl, subst}
+use Rattle.std.specs.Prelude.{codes}
 use Rattle.st_types.specs.declared.elem.Elem.TheVariants as elem
 use Rattle.st_types.specs.declared.st_type.StType.{out-StType}
 use Rattle.st_types.specs.declared.st_type.StType.TheBlock.{hidden-the_row-StType-0, shown-the_row-StType-0}
@@ -8,9 +8,9 @@ use Rattle.st_types.specs.declared.st_type.StType.TheVariants as type
 use Rattle.st_values.specs.Program.{Variable, Program, class_number, class_variables}
 use Rattle.st_values.specs.Shape.{Shape, Elementary, Reference, Array, Instance, no_fields, field_then, region_shape}
 use Rattle.st_meaning.proofs.Builder.{dint, own, class, global}
-use Rattle.st_change.specs.From.{old_name, class_pairs, structure_pairs, region_pairs, region_name}
+use Rattle.st_change.specs.From.{old_name, class_pairs, region_pairs, region_name}
 use Rattle.st_change.specs.CarryLaws.{Settled, Settles}
-use Rattle.st_change.specs.Laws.{Distinct, NamesDiffer}
+use Rattle.st_change.specs.Laws.{Distinct}
 
 abbrev n : Variable
 n = own (codes "N") dint

@@ -19,18 +19,18 @@ use Rattle.st_meaning.specs.State.{in_store, State, Outcome, Done, Fault, go_on,
 use Rattle.st_meaning.specs.Enter.{run_task, programs_of}
 use Rattle.st_meaning.specs.ProcessImage.{Located, located_of, is_in, is_bit, input_byte, first_byte, input_number, size_of, input_value, or_same, latch, is_shown, share, number_or_zero, output_byte, covered, collect}
 use Rattle.st_meaning.specs.Cycle.{all_ticks, begun, ended, cycle}
-use Rattle.st_meaning.specs.Use.{Use, names, follows, calls, changes, the_region, the_instances, routine_uses}
-use Rattle.st_meaning.specs.Footprint as footprint
-use Rattle.st_meaning.specs.Footprint.{Has, Enters, Reached, begins, called, Footprint, Writes, IsFootprint}
-use Rattle.st_meaning.specs.Good.{GoodAt, Good, GoodOn, AgreeOn}
-use Rattle.st_meaning.specs.Promise.{RoutineIs, ProgramIs}
-use Rattle.st_meaning.specs.FrameLaws.{last_moment, FrameLaws}
-use Rattle.st_meaning.proofs.Footprints.{has_any, any_has, writes_read}
-use Rattle.st_meaning.proofs.OfTypes.{wraps_fit, bit_fits}
-use Rattle.st_meaning.proofs.Obeys.{Anything, Alike, Both, Obeys, write_obeys}
-use Rattle.st_meaning.proofs.Bodies.{All, Covered, entered_is}
-use Rattle.st_meaning.proofs.Entered.{program_is, programs_obey}
-use Rattle.st_meaning.proofs.Whole.{all_of, timely, call_keeps}
+use Rattle.st_frame.specs.Use.{Use, names, follows, calls, changes, the_region, the_instances, routine_uses}
+use Rattle.st_frame.specs.Footprint as footprint
+use Rattle.st_frame.specs.Footprint.{Has, Enters, Reached, begins, called, Footprint, Writes, IsFootprint}
+use Rattle.st_frame.specs.Good.{GoodAt, Good, GoodOn, AgreeOn}
+use Rattle.st_frame.specs.Promise.{RoutineIs, ProgramIs}
+use Rattle.st_frame.specs.FrameLaws.{last_moment, FrameLaws}
+use Rattle.st_frame.proofs.Footprints.{has_any, any_has, writes_read}
+use Rattle.st_frame.proofs.OfTypes.{wraps_fit, bit_fits}
+use Rattle.st_frame.proofs.Obeys.{Anything, Alike, Both, Obeys, write_obeys}
+use Rattle.st_frame.proofs.Bodies.{All, Covered, entered_is}
+use Rattle.st_frame.proofs.Entered.{program_is, programs_obey}
+use Rattle.st_frame.proofs.Whole.{all_of, timely, call_keeps}
 
 both : (a b : Bool) → (a && b) ≡ true → (a ≡ true) × (b ≡ true)
 both true true e = (refl, refl)
