@@ -1,0 +1,208 @@
+-- Values of constant expressions: literals, constants, enumerators, conversions, and operators over them, with the meaning that they
+-- have at run time (IEC 61131-3:2013, 6.5.1.4).
+use Rattle.std.specs.Prelude.{ℕ, ℤ, pos, neg_ℤ, int_lt, int_le, Bool, true, false, not, ◌&&◌, if◌then◌else◌, [], ◌++◌, Option, Some, None}
+use Rattle.std.specs.Ordering.{int_eq}
+use Rattle.plc_text.specs.declared.code.Code.TheVariants.{E05, E13}
+use Rattle.st_types.specs.declared.elem.Elem.{Elem}
+use Rattle.st_types.specs.declared.elem.Elem.TheVariants as kind
+use Rattle.st_types.specs.declared.st_type.StType.{StType}
+use Rattle.st_types.specs.declared.st_type.StType.TheVariants as type
+use Rattle.plc_num.specs.Arithmetic.{sum, difference, product, quotient, remainder}
+use Rattle.plc_num.specs.Bits.{conjunction, disjunction, exclusive_disjunction, complement}
+use Rattle.plc_num.specs.Conversion.{converted}
+use Rattle.st_tree.specs.declared.expression.Operator.{Operator}
+use Rattle.st_tree.specs.declared.expression.Operator.TheVariants as operator
+use Rattle.st_tree.specs.declared.expression.Root.{Root}
+use Rattle.st_tree.specs.declared.expression.Root.TheVariants as root
+use Rattle.st_tree.specs.declared.program.Target.{Target}
+use Rattle.st_tree.specs.declared.program.Target.TheVariants as target
+use Rattle.st_tree.specs.Duration.{milliseconds}
+use Rattle.st_tree.specs.Expression.{Expression, Int, Typed, Time, True, False, Null, Place, Call, Enumerator, Ref, Now, Paren, Not, Negate, Chain, Field, Selectors, no_selectors, selector_then, Positional, Input, Output, Arguments, no_arguments, argument_then, Tails, no_tails, tail_then}
+use Rattle.st_tree.specs.Number.{number_of}
+use Rattle.st_rules.specs.declared.asked.Asked.{Asked}
+use Rattle.st_rules.specs.declared.asked.Asked.TheVariants.{Anything, Wanted}
+use Rattle.st_rules.specs.Faults.{Faults, at, when}
+use Rattle.st_rules.specs.Kinds.{is_arithmetic, operation_type, unary_type, takes_not, takes_minus}
+use Rattle.st_rules.specs.Literals.{number_asked, literal_number}
+use Rattle.st_rules.specs.Scope.{Scope, Meant, a_variable, an_enumerator, sought, type_qualifier, dot_qualifier}
+use Rattle.st_rules.specs.Places.{root_line, qualifies}
+use Rattle.st_rules.specs.Calls.{Callee, a_conversion, callee}
+use Rattle.st_rules.specs.Expressions.{is_untyped, front_asked, operand_asked, asked_behind, type_of, note_of_value, whole_target, is_conversion, expression_faults}
+
+-- what a constant expression comes to
+pub data Outcome : Type 0 where
+  comes_to : ℤ → Outcome
+  -- a zero divisor ends it, in the row of operators at this line
+  divides_by_zero : ℕ → Outcome
+  cannot_be_told : Outcome
+
+abbrev pub is_zero : ℤ → Bool
+is_zero z = int_eq z (pos 0)
+
+abbrev pub truth : Bool → ℤ
+truth true = pos 1
+truth false = pos 0
+
+-- ---- operators
+
+abbrev pub is_division : Operator → Bool
+is_division operator.Divide = true
+is_division operator.Modulo = true
+is_division _ = false
+
+-- of two numbers, in the kind of the operation; of a division, where the divisor is not zero
+abbrev pub result_of : Operator → Elem → ℤ → ℤ → ℤ
+result_of operator.Plus e a b = sum e a b
+result_of operator.Minus e a b = difference e a b
+result_of operator.Times e a b = product e a b
+result_of operator.Divide e a b = quotient e a b
+result_of operator.Modulo e a b = remainder e a b
+result_of operator.And e a b = conjunction e a b
+result_of operator.Or e a b = disjunction e a b
+result_of operator.Xor e a b = exclusive_disjunction e a b
+result_of operator.AndThen e a b = b
+result_of operator.OrElse e a b = b
+result_of operator.Equal e a b = truth (int_eq a b)
+result_of operator.Differs e a b = truth (not (int_eq a b))
+result_of operator.Less e a b = truth (int_lt a b)
+result_of operator.Greater e a b = truth (int_lt b a)
+result_of operator.AtMost e a b = truth (int_le a b)
+result_of operator.AtLeast e a b = truth (int_le b a)
+
+-- both operands are evaluated, the left one first; a zero divisor counts where the dividend cannot be told, too
+abbrev pub both : Operator → Elem → ℕ → Outcome → Outcome → Outcome
+both o e line (divides_by_zero l) y = divides_by_zero l
+both o e line (comes_to a) (comes_to b) = if is_division o && is_zero b then divides_by_zero line else comes_to (result_of o e a b)
+both o e line cannot_be_told (comes_to b) = if is_division o && is_zero b then divides_by_zero line else cannot_be_told
+both o e line x (divides_by_zero l) = divides_by_zero l
+both o e line x y = cannot_be_told
+
+-- the right operand is evaluated where the left one does not decide
+abbrev pub if_true : Outcome → Outcome → Outcome
+if_true (comes_to a) y = if is_zero a then comes_to a else y
+if_true x y = x
+
+abbrev pub if_false : Outcome → Outcome → Outcome
+if_false (comes_to a) y = if is_zero a then y else comes_to a
+if_false x y = x
+
+abbrev pub operated : Operator → Elem → ℕ → Outcome → Outcome → Outcome
+operated operator.AndThen e line x y = if_true x y
+operated operator.OrElse e line x y = if_false x y
+operated o e line x y = both o e line x y
+
+abbrev pub outcome_map : (ℤ → ℤ) → Outcome → Outcome
+outcome_map f (comes_to a) = comes_to (f a)
+outcome_map f x = x
+
+-- ---- the value
+
+-- the kind of an operation; one that cannot be told breaks a rule of its own
+abbrev pub kind_in : Option StType → Elem
+kind_in (Some (type.Elementary e)) = e
+kind_in _ = kind.Dint
+
+abbrev pub target_value : Target → Outcome
+target_value (target.Constant z) = comes_to z
+target_value (target.Enumerator k) = comes_to (pos k)
+target_value _ = cannot_be_told
+
+abbrev pub conversion_asked : Callee → Asked
+conversion_asked (a_conversion a b) = Wanted (type.Elementary a)
+conversion_asked _ = Anything
+
+abbrev pub converted_value : Callee → Outcome → Outcome
+converted_value (a_conversion a b) x = outcome_map (converted b) x
+converted_value _ x = cannot_be_told
+
+abbrev pub if_none : Faults → Outcome → Option ℤ
+if_none [] (comes_to z) = Some z
+if_none _ _ = None
+
+module _ (s : Scope) where
+  abbrev mutual
+    pub constant_value : Asked → Expression ℕ → Outcome
+    constant_value asked (Int l digits) = comes_to (pos (number_of digits))
+    constant_value asked (Typed l k literal) = comes_to (literal_number literal)
+    constant_value asked (Time l text) = comes_to (pos (milliseconds text))
+    constant_value asked (True l) = comes_to (pos 1)
+    constant_value asked (False l) = comes_to (pos 0)
+    constant_value asked (Null l) = comes_to (pos 0)
+    constant_value asked (Place l r ss) = target_value (whole_target s r ss)
+    constant_value asked (Call l r ss xs) = converted_value (callee s r ss) (operand_value (conversion_asked (callee s r ss)) xs)
+    constant_value asked (Enumerator l t k name) = target_value (note_of_value s (type_qualifier s t) name)
+    constant_value asked (Ref l r ss) = cannot_be_told
+    constant_value asked (Now l) = cannot_be_told
+    constant_value asked (Paren l e) = constant_value asked e
+    constant_value asked (Not l e) = outcome_map (complement (kind_in (unary_type takes_not (type_of s Anything e)))) (constant_value Anything e)
+    constant_value asked (Negate l (Int k digits)) = comes_to (neg_ℤ (pos (number_of digits)))
+    constant_value asked (Negate l e) =
+        let inner = front_asked (is_untyped e) (number_asked asked) in
+        outcome_map (difference (kind_in (unary_type takes_minus (type_of s inner e))) (pos 0)) (constant_value inner e)
+    constant_value asked (Chain l e ts) =
+        let front = front_asked (is_untyped e) (asked_behind s asked ts) in
+        row_value (is_untyped e) front (type_of s front e) (constant_value front e) ts
+
+    -- of a row of operators: its type and its value so far
+    pub row_value : Bool → Asked → Option StType → Outcome → Tails ℕ → Outcome
+    row_value untyped asked t x no_tails = x
+    row_value untyped asked t x (tail_then l o e ts) =
+        let inner = operand_asked untyped (is_untyped e) asked t in
+        let u = operation_type o t (type_of s inner e) in
+        row_value (is_arithmetic o && untyped && is_untyped e) asked u (operated o (kind_in u) l x (constant_value inner e)) ts
+
+    -- the operand of a conversion
+    pub operand_value : Asked → Arguments ℕ → Outcome
+    operand_value asked (argument_then (Positional e) xs) = constant_value asked e
+    operand_value asked xs = cannot_be_told
+
+  -- ---- the rules of constant expressions
+
+  abbrev pub is_constant_meaning : Option Meant → Bool
+  is_constant_meaning (Some (a_variable c v)) = v.constant
+  is_constant_meaning (Some (an_enumerator n k)) = true
+  is_constant_meaning _ = false
+
+  -- a constant, an enumerator, or an enumerator behind the name of its type
+  abbrev pub is_constant_place : Root ℕ → Selectors ℕ → Bool
+  is_constant_place (root.Name l name) no_selectors = is_constant_meaning (sought s false name)
+  is_constant_place (root.Name l name) (selector_then (Field k n) no_selectors) = qualifies s (dot_qualifier s name)
+  is_constant_place r ss = false
+
+  abbrev pub no_constant_place : Root ℕ → Selectors ℕ → Faults
+  no_constant_place r ss = when (not (is_constant_place r ss)) E05 (root_line r)
+
+  -- a part that is no constant: a variable, a call of a routine, THIS, TIME(), REF, an index
+  abbrev mutual
+    pub no_constant_part : Expression ℕ → Faults
+    no_constant_part (Place l r ss) = no_constant_place r ss
+    no_constant_part (Call l r ss xs) = if is_conversion s r ss then no_constant_argument xs else at E05 l
+    no_constant_part (Ref l r ss) = at E05 l
+    no_constant_part (Now l) = at E05 l
+    no_constant_part (Paren l e) = no_constant_part e
+    no_constant_part (Not l e) = no_constant_part e
+    no_constant_part (Negate l e) = no_constant_part e
+    no_constant_part (Chain l e ts) = no_constant_part e ++ no_constant_operand ts
+    no_constant_part _ = []
+
+    pub no_constant_operand : Tails ℕ → Faults
+    no_constant_operand no_tails = []
+    no_constant_operand (tail_then l o e ts) = no_constant_part e ++ no_constant_operand ts
+
+    pub no_constant_argument : Arguments ℕ → Faults
+    no_constant_argument no_arguments = []
+    no_constant_argument (argument_then (Positional e) xs) = no_constant_part e ++ no_constant_argument xs
+    no_constant_argument (argument_then (Input l name e) xs) = no_constant_part e ++ no_constant_argument xs
+    no_constant_argument (argument_then (Output l name k r ss) xs) = no_constant_place r ss ++ no_constant_argument xs
+
+  abbrev pub zero_divisor : Outcome → Faults
+  zero_divisor (divides_by_zero l) = at E13 l
+  zero_divisor _ = []
+
+  -- an expression where a constant is wanted
+  unfoldable pub constant_faults : Asked → Expression ℕ → Faults
+  constant_faults asked e = expression_faults s asked e ++ no_constant_part e ++ zero_divisor (constant_value asked e)
+
+  -- the value where no rule is broken
+  unfoldable pub told_value : Asked → Expression ℕ → Option ℤ
+  told_value asked e = if_none (constant_faults asked e) (constant_value asked e)

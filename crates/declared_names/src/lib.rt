@@ -1,0 +1,7 @@
+//! What a unit says of the names that it declares: types as they are written, values of constants, variables with their numbers, and
+//! the scopes of its texts (IEC 61131-3:2013, 6.4 and 6.5).
+#![tactic(auto)]
+
+mod laws;
+
+pub use laws::constant_laws;

@@ -1,0 +1,12 @@
+pub mod NameRules
+pub mod Initials
+pub mod VariableRules
+pub mod Cycles
+pub mod Worth
+pub mod Limits
+pub mod Addresses
+pub mod ConfigurationRules
+pub mod DeclarationRules
+pub mod UnitRefusal
+pub mod Checked
+pub mod RefusalLaws
