@@ -4,7 +4,7 @@ ghost use Rattle.std.specs.Prelude.{◌≡◌, true, IfOk, MatchOption, None, So
 ghost use Rattle.std.specs.Option.{is_some};
 ghost use Rattle.st_rules.specs.Chains.{◌or_else◌};
 ghost use Rattle.st_rules.specs.Classes.{base_of, chain, classes_in, lookup};
-ghost use Rattle.st_rules.specs.Interfaces.{interfaces_in, conforms, extends};
+ghost use Rattle.st_rules.specs.Interfaces.{interfaces_in, interface_lookup, conforms, extends};
 ghost use Rattle.st_scope.specs.Tables.{Knows};
 ghost use Rattle.st_rules.specs.Scope as scope;
 ghost use Rattle.st_scope.specs.Meant.{meant, meaning, qualifier};
@@ -13,6 +13,7 @@ ghost use Rattle.st_scope.specs.Private.Places.{IsTableOf};
 use crate::places::{Places, Which, is_external, place_of, variable_there, variables};
 use crate::tables::NameTables;
 use class_tables::ClassTables;
+use iface_tables::IfaceTables;
 use plc_text::{NoMemory, Text};
 use st_rules::{
     Access, DeclaredField, DeclaredGlobal, DeclaredRoutine, DeclaredVariable, MethodId, PrototypeId,
@@ -26,6 +27,7 @@ use std::marker::Model;
 pub struct Scope<'a> {
     names: &'a NameTables,
     classes: &'a ClassTables,
+    interfaces: &'a IfaceTables,
     locals: &'a [DeclaredVariable],
     places: Places,
     class: Option<u32>,
@@ -50,7 +52,7 @@ impl<'a> Model for Scope<'a> {
 
     ghost view = { λ s. record { classes = classes_in s.classes.now.decls; interfaces = interfaces_in s.classes.now.decls; names = s.names.now.names; class = s.class; in_method = s.in_method; locals = s.locals.now } };
 
-    ghost invariant = { λ s. Sees s.names.now (record { classes = classes_in s.classes.now.decls; interfaces = interfaces_in s.classes.now.decls; names = s.names.now.names; class = s.class; in_method = s.in_method; locals = s.locals.now }) s.places };
+    ghost invariant = { λ s. Sees s.names.now (record { classes = classes_in s.classes.now.decls; interfaces = interfaces_in s.classes.now.decls; names = s.names.now.names; class = s.class; in_method = s.in_method; locals = s.locals.now }) s.places (interfaces_in s.interfaces.now.decls) };
 }
 
 /// What a name means.
@@ -114,17 +116,20 @@ impl<'a> Scope<'a> {
         alloc: Global,
         names: &'a NameTables,
         classes: &'a ClassTables,
+        interfaces: &'a IfaceTables,
         locals: &'a [DeclaredVariable],
         class: Option<u32>,
         in_method: bool,
     ) -> Result<Scope<'a>, NoMemory>
-        requires { Knows names.now (classes_in classes.now.decls) }
+        requires names { Knows names.now (classes_in classes.now.decls) }
+        requires tables { interfaces.now ≡ classes.now }
         ensures { IfOk result (λ s. s ≡ record { classes = classes_in classes.now.decls; interfaces = interfaces_in classes.now.decls; names = names.now.names; class = class; in_method = in_method; locals = locals.now }) }
     {
         let places = variables(alloc, locals, Which::All)?;
         Ok(Scope {
             names,
             classes,
+            interfaces,
             locals,
             places,
             class,
@@ -351,6 +356,13 @@ impl<'a> Scope<'a> {
         ensures { result ≡ scope.is_block_at self.now class }
     {
         self.names.is_block(class)
+    }
+
+    /// The method that a name means in an interface.
+    pub fn prototype_of(&self, interface: u32, name: &Text) -> Option<PrototypeId>
+        ensures { result ≡ interface_lookup self.now.interfaces interface name.now }
+    {
+        self.interfaces.prototype_of(interface, name)
     }
 
     /// Whether the text stands in the class or in one that is derived from it.

@@ -2,6 +2,7 @@
 
 use crate::{Meant, NameTables, Qualifier, Scope};
 use class_tables::ClassTables;
+use iface_tables::IfaceTables;
 use plc_text::{Items, NoMemory, Text};
 use st_rules::{
     Access, DeclaredClass, DeclaredGlobal, DeclaredNames, DeclaredRoutine, DeclaredType,
@@ -157,10 +158,11 @@ fn names_in_a_method(rt: HostRuntime) -> Result<(), Fail> {
     decls.push(Decl::Class(class(alloc, "B", "A")?))?;
     let unit = Unit { decls };
     let classes = ClassTables::build(alloc, &unit)?;
+    let interfaces = IfaceTables::build(alloc, &unit)?;
     let names = NameTables::build(alloc, &unit, &classes, declared(alloc)?)?;
     let mut locals = Vec::new(alloc);
     locals.push(variable(alloc, "X", SectionSort::Var, Access::Public)?)?;
-    let scope = Scope::within(alloc, &names, &classes, &locals, Some(1), true)?;
+    let scope = Scope::within(alloc, &names, &classes, &interfaces, &locals, Some(1), true)?;
     let cases = [
         ("X", false, "variable"),
         ("N", false, "member"),
