@@ -8,11 +8,12 @@ ghost use Rattle.st_rules.specs.Interfaces.{interfaces_in};
 ghost use Rattle.st_rules.specs.InterfaceRules as rules;
 
 use crate::broken::{class_fault, interface_fault};
+use crate::declarers::{Declarers, declarers, method_named};
 use crate::prototypes::all_prototypes;
 use crate::targets::target;
 use class_tables::ClassTables;
 use plc_text::{Code, Items, NoMemory, Text};
-use st_rules::{MethodId, Signatures};
+use st_rules::{MethodId, PrototypeId, Signatures};
 use st_tree::Unit;
 use std::alloc::Global;
 use std::marker::Model;
@@ -23,10 +24,10 @@ use std::marker::Model;
 pub struct IfaceTables {
     classes: ClassTables,
     prototypes: Items<Items<Text>>,
+    declarers: Declarers,
 }
 
 impl Model for IfaceTables {
-    ghost use Rattle.std.specs.Prelude.{◌≡◌, map};
     ghost use Rattle.st_tree.specs.declared.unit.Unit.{Unit};
 
     ghost Value = { Unit };
@@ -35,11 +36,11 @@ impl Model for IfaceTables {
 
     ghost coded = { unit_type.the_row.coded };
 
-    ghost use Rattle.st_rules.specs.Interfaces.{interfaces_in, prototype_names};
+    ghost use Rattle.iface_tables.specs.Private.Tables.{AreTables};
 
     ghost view = { λ t. t.classes };
 
-    ghost invariant = { λ t. t.prototypes ≡ map prototype_names (interfaces_in t.classes.decls) };
+    ghost invariant = { λ t. AreTables t.classes t.prototypes t.declarers };
 }
 
 impl IfaceTables {
@@ -49,9 +50,11 @@ impl IfaceTables {
     {
         let classes = ClassTables::build(alloc, unit)?;
         let prototypes = all_prototypes(alloc, unit.decls.as_slice())?;
+        let declarers = declarers(alloc, prototypes.as_slice())?;
         Ok(IfaceTables {
             classes,
             prototypes,
+            declarers,
         })
     }
 
@@ -74,6 +77,14 @@ impl IfaceTables {
             interface,
             method as usize,
         )
+    }
+
+    /// The method that a name means in an interface: its own, or else that of the first interface in the text that it extends and that
+    /// declares one.
+    pub fn prototype_of(&self, interface: u32, name: &Text) -> Option<PrototypeId>
+        ensures { result ≡ interfaces.interface_lookup (interfaces_in self.now.decls) interface name.now }
+    {
+        method_named(&self.classes, &self.declarers, interface, name)
     }
 
     /// Whether an interface is another one or extends it, in any number of steps.

@@ -7,4 +7,4 @@ pub returns : goal.returns
 returns c =
     let i = c.self.inside in
     rw (← c.self.view_is)
-    (c.target.ensures ∙ ap (λ ps. targets.target i.classes ps c.args.class c.args.interface c.args.method) c.as_slice.ensures ∙ target-same i.classes i.prototypes c.self.invariant c.args.class c.args.interface c.args.method)
+    (c.target.ensures ∙ ap (λ ps. targets.target i.classes ps c.args.class c.args.interface c.args.method) c.as_slice.ensures ∙ target-same i.classes i.prototypes c.self.invariant.names c.args.class c.args.interface c.args.method)
