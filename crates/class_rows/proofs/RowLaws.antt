@@ -176,11 +176,11 @@ pub method-row-is : {A : Type 0} (names : List (List ℕ)) (method : Method A) (
     ◌≡◌ {A = MethodRow} (record { line = method.line; name = n; access = access; is_abstract = a; is_final = f; is_override = o; is_hook = h; has_statements = s }) (method_row names method)
 method-row-is names method n access a f o h s p q r t u v w = cc
 
-pub class-row-is : {A : Type 0} (names classes interfaces : List (List ℕ)) (class : ClassDecl A) (b a f i : Bool) (base : Option ℕ) (implemented : List ℕ) (methods : List MethodRow) →
-    b ≡ is_block class → a ≡ is_abstract class.modifiers → f ≡ is_final class.modifiers → i ≡ list_any is_in_out_section class.members →
+pub class-row-is : {A : Type 0} (names classes interfaces : List (List ℕ)) (class : ClassDecl A) (b a f i x : Bool) (base : Option ℕ) (implemented : List ℕ) (methods : List MethodRow) →
+    b ≡ is_block class → a ≡ is_abstract class.modifiers → f ≡ is_final class.modifiers → i ≡ list_any is_in_out_section class.members → x ≡ is_some class.base →
     base ≡ option_and_then (λ base. first_place base.text classes) class.base → implemented ≡ places_of interfaces class.interfaces → methods ≡ method_rows names class.members →
-    ◌≡◌ {A = ClassRow} (record { line = class.line; is_block = b; is_abstract = a; is_final = f; has_in_outs = i; base = base; implemented = implemented; methods = methods }) (class_row names classes interfaces class)
-class-row-is names classes interfaces class b a f i base implemented methods p q r s t u v = cc
+    ◌≡◌ {A = ClassRow} (record { line = class.line; is_block = b; is_abstract = a; is_final = f; has_in_outs = i; has_extends = x; base = base; implemented = implemented; methods = methods }) (class_row names classes interfaces class)
+class-row-is names classes interfaces class b a f i x base implemented methods p q r s w t u v = cc
 
 abbrev rows_for : {A : Type 0} → List (Decl A) → ClassDecl A → ClassRow
 rows_for ds = class_row (all_names (classes_in ds)) (class_names (classes_in ds)) (interface_names (interfaces_in ds))

@@ -1,6 +1,6 @@
 -- What the rules of classes ask of each declaration. Methods are named by their numbers among all names, bases and interfaces by their
 -- places.
-use Rattle.std.specs.Prelude.{◌≡◌, ℕ, List, map, option_and_then, filter_map, unwrap_or}
+use Rattle.std.specs.Prelude.{◌≡◌, ℕ, List, map, option_and_then, filter_map, unwrap_or, is_some}
 use Rattle.std.specs.List.{list_any}
 use Rattle.st_tree.specs.declared.name.Used.{Used}
 use Rattle.st_tree.specs.declared.declaration.ClassDecl.{ClassDecl}
@@ -44,6 +44,7 @@ class_row names classes interfaces class = record {
   is_abstract = is_abstract class.modifiers;
   is_final = is_final class.modifiers;
   has_in_outs = list_any is_in_out_section class.members;
+  has_extends = is_some class.base;
   base = option_and_then (λ base. first_place base.text classes) class.base;
   implemented = places_of interfaces class.interfaces;
   methods = method_rows names class.members;

@@ -47,6 +47,9 @@ pub struct ClassRow {
     pub is_abstract: bool,
     pub is_final: bool,
     pub has_in_outs: bool,
+    /// Whether it has EXTENDS.
+    pub has_extends: bool,
+    /// The base, where it is found.
     pub base: Option<u32>,
     /// The interfaces behind IMPLEMENTS.
     pub implemented: Items<u32>,
@@ -168,6 +171,7 @@ fn class_row<A>(
         is_abstract: is_abstract(modifiers),
         is_final: is_final(modifiers),
         has_in_outs: has_in_outs(members),
+        has_extends: class.base.is_some(),
         base,
         implemented: places_of(alloc, &names.interfaces, class.interfaces.as_slice())?,
         methods: method_rows(alloc, &names.methods, members)?,

@@ -220,6 +220,16 @@ module _ {A : Type 0} (classes : List (ClassDecl A)) (interfaces : List (Interfa
   abbrev row_of : ClassDecl A → ClassRow
   row_of = class_row (all_names classes) (class_names classes) (interface_names interfaces)
 
+  pub base_found : (c : ℕ) → base_in rows.classes c ≡ base_of classes c
+  base_found = base-same classes interfaces rows t.are_rows
+
+  pub extends_there : (c : ℕ) → found.has_extends rows c ≡ passes_if_there (λ class. is_some class.base) (slice_get classes c)
+  extends_there c = ap (passes_if_there (λ (row : ClassRow). row.has_extends)) (row-at classes interfaces rows t.are_rows c) ∙ at (slice_get classes c)
+    where
+      at : (o : Option (ClassDecl A)) → passes_if_there (λ (row : ClassRow). row.has_extends) (option_map row_of o) ≡ passes_if_there (λ class. is_some class.base) o
+      at None = refl
+      at (Some class) = refl
+
   pub concrete_found : (c : ℕ) → found.concrete_line rows c ≡ option_and_then (λ class. if is_abstract class.modifiers then None else Some class.line) (slice_get classes c)
   concrete_found c = ap (option_and_then found.line_of) (row-at classes interfaces rows t.are_rows c) ∙ at (slice_get classes c)
     where

@@ -114,6 +114,16 @@ pub fn is_public(rows: &UnitRows, id: MethodId) -> bool
     }
 }
 
+/// Whether a class has EXTENDS.
+pub fn has_extends(rows: &UnitRows, class: u32) -> bool
+    ensures { result ≡ found.has_extends rows.now class }
+{
+    match rows.classes.get(class as usize) {
+        Some(row) => row.has_extends,
+        None => false,
+    }
+}
+
 /// The line of a class that is not abstract.
 pub fn concrete_line(rows: &UnitRows, class: u32) -> Option<u32>
     ensures { result ≡ found.concrete_line rows.now class }

@@ -1,8 +1,9 @@
 //! Which method a name means in a class, which slot it has, and to what a class conforms.
 
-ghost use Rattle.std.specs.Prelude.{◌≡◌, length, None, Some, if◌then◌else◌, option_and_then, option_map, slice_get, IfOk};
+ghost use Rattle.std.specs.Prelude.{◌≡◌, length, None, Some, if◌then◌else◌, option_and_then, option_map, is_some, slice_get, IfOk};
 ghost use Rattle.st_rules.specs.Modifiers.{is_abstract};
 ghost use Rattle.st_rules.specs.Faults.{least};
+ghost use Rattle.st_rules.specs.Numbered.{passes_if_there};
 ghost use Rattle.st_rules.specs.ClassRules as rules;
 ghost use Rattle.st_rules.specs.InterfaceRules as abstracts;
 ghost use Rattle.st_rules.specs.Classes as classes;
@@ -12,6 +13,7 @@ ghost use Rattle.st_rules.specs.Interfaces.{interfaces_in};
 ghost use Rattle.class_tables.specs.Slots as slots;
 
 use crate::broken::class_fault;
+use crate::chain::base;
 use crate::found;
 use crate::graph::lead;
 use crate::settle::{Settled, settle_all};
@@ -78,6 +80,20 @@ impl ClassTables {
         ensures { result ≡ classes.class_named (classes_in self.now.decls) name.now }
     {
         first_place(&self.names.classes, name)
+    }
+
+    /// The base of a class, where it is found.
+    pub fn base_of(&self, class: u32) -> Option<u32>
+        ensures { result ≡ classes.base_of (classes_in self.now.decls) class }
+    {
+        base(self.rows.classes.as_slice(), class)
+    }
+
+    /// Whether a class has EXTENDS, also where its base is not found.
+    pub fn has_extends(&self, class: u32) -> bool
+        ensures { result ≡ passes_if_there (λ class. is_some class.base) (slice_get (classes_in self.now.decls) class) }
+    {
+        found::has_extends(&self.rows, class)
     }
 
     /// The interface that a name means: the first of that name.

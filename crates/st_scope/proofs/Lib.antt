@@ -2,3 +2,4 @@ pub mod PlaceLaws
 pub mod ClimbLaws
 pub mod TableLaws
 pub mod EnumeratorLaws
+pub mod ChainLaws

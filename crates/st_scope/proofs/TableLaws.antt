@@ -1,12 +1,20 @@
 -- What tables hold is what a scope says.
 use Rattle.std.proofs.Common.{◌≡◌, ℕ, suc, ◌+◌, List, [], ◌∷◌, Option, Some, None, refl, sym, ap, ◌∙◌, add-one, length, Bor}
-use Rattle.std.specs.Prelude.{option_map, option_and_then, slice_get, filter, MatchOption}
+use Rattle.std.specs.Prelude.{map, option_map, option_and_then, slice_get, filter, MatchOption}
 use Rattle.st_rules.specs.declared.names.TypeParts.{TypeParts}
 use Rattle.st_rules.specs.declared.names.DeclaredVariable.{DeclaredVariable}
+use Rattle.st_tree.specs.declared.declaration.ClassSort.{ClassSort}
+use Rattle.st_tree.specs.declared.declaration.ClassSort.TheVariants.{FunctionBlock, Class}
+use Rattle.st_rules.specs.declared.names.DeclaredClass.{DeclaredClass}
+use Rattle.st_scope.specs.Private.Routines.{is_block}
 use Rattle.st_rules.specs.Chains.{nearest, climb, ◌or_else◌}
 use Rattle.st_rules.specs.Classes.{base_of, chain}
-use Rattle.st_rules.specs.Scope.{Scope, first_named, variables_of, parts_of, instance_variable, instance_entry, is_of_instance, is_inherited, base_entry, of_class, variable_named, value_names, value_named, value_of, enumerator_meaning, only_enumerator, an_enumerator}
-use Rattle.st_scope.specs.Tables.{Told, Holds}
+use Rattle.st_rules.specs.Scope.{Scope, first_named, variables_of, parts_of, instance_variable, instance_entry, is_of_instance, is_inherited, base_entry, of_class, variable_named, value_names, value_named, value_of, enumerator_meaning, only_enumerator, an_enumerator, is_block_at}
+use Rattle.std.proofs.lemmas.Option.{slice_get-map}
+use Rattle.std.proofs.lemmas.List.{length-map}
+use Rattle.st_tree.specs.declared.declaration.ClassDecl.{ClassDecl}
+use Rattle.st_scope.specs.Tables.{Told, Holds, Knows}
+use Rattle.st_scope.specs.Private.Bases.{base_number, bases_by, is_derived}
 use Rattle.st_scope.specs.declared.places.Which.TheVariants.{All, Inherited, OfInstance}
 use Rattle.st_scope.specs.Private.Places.{items_at, passes}
 use Rattle.st_scope.specs.Private.Climb.{upward, base_in, own, own_with_class}
@@ -39,6 +47,13 @@ module _ (t : Told) (s : Scope) (holds : Holds t s) where
       upward_is has (base_in t.bases) (length t.bases + 1) c
       ∙ ap (nearest has) (climb_same (base_in t.bases) (base_of s.classes) holds.bases (length t.bases + 1) [] (Some c) ∙ ap (λ n. climb (base_of s.classes) n [] (Some c)) (add-one (length t.bases) ∙ ap suc holds.long))
       ∙ nearest_same has other same (climb (base_of s.classes) (suc (length s.classes)) [] (Some c))
+
+  pub variables_are : (c : ℕ) → items_at (λ class. class.variables) t.names.classes c ≡ variables_of s c
+  variables_are c = variables_here c
+
+  pub chain_is : (c : ℕ) → climb (base_in t.bases) (length t.bases + 1) [] (Some c) ≡ chain s.classes c
+  unfolding chain
+  chain_is c = climb_same (base_in t.bases) (base_of s.classes) holds.bases (length t.bases + 1) [] (Some c) ∙ ap (λ n. climb (base_of s.classes) n [] (Some c)) (add-one (length t.bases) ∙ ap suc holds.long)
 
   pub of_instance : (name : List ℕ) (c : ℕ) → upward (own_with_class (passes OfInstance) t.names.classes name) (base_in t.bases) (length t.bases + 1) c ≡ instance_variable s c name
   unfolding instance_variable
@@ -82,3 +97,30 @@ enumerator_is t s name holds first last f l o e =
     ∙ ap (λ n. option_and_then (λ k. option_map (an_enumerator k) (first_place name (items_at value_names t.names.parts k))) n) (ap (λ x. lone x (last_having None 0 t.names.parts name)) (sym f) ∙ ap (lone first) (sym l) ∙ sym e)
     ∙ ap (λ n. option_and_then (λ k. option_map (an_enumerator k) (first_place name (items_at value_names n.parts k))) o) (sym holds.names)
     ∙ value_here s name o
+
+-- ---- bases
+
+joined : {X Y : Type 0} (f : X → Option Y) (o : Option X) → option_and_then (λ b. b) (option_map f o) ≡ option_and_then f o
+joined f None = refl
+joined f (Some x) = refl
+
+pub bases_known : (t : Told) (classes : List (ClassDecl ℕ)) → t.bases ≡ bases_by classes classes → t.derived ≡ map is_derived classes → Knows t classes
+bases_known t classes e d = record {
+  bases = λ c. ap (λ bs. option_and_then (λ b. b) (slice_get bs c)) e ∙ ap (option_and_then (λ b. b)) (slice_get-map (λ class. base_number classes class.base) classes c)
+      ∙ joined (λ class. base_number classes class.base) (slice_get classes c);
+  long = ap length e ∙ length-map classes _;
+  derived = λ c. ap (λ ds. slice_get ds c) d ∙ slice_get-map is_derived classes c;
+}
+
+-- ---- sorts of classes
+
+pub block_is : (s : Scope) (c : ℕ) → is_block s.names.classes c ≡ is_block_at s c
+block_is s c = at (slice_get s.names.classes c) refl
+  where
+    by_sort : (class : DeclaredClass) → slice_get s.names.classes c ≡ Some class → (x : ClassSort) → class.sort ≡ x → is_block s.names.classes c ≡ is_block_at s c
+    by_sort class e FunctionBlock f = rw (e, f) refl
+    by_sort class e Class f = rw (e, f) refl
+
+    at : (o : Option DeclaredClass) → slice_get s.names.classes c ≡ o → is_block s.names.classes c ≡ is_block_at s c
+    at None e = rw e refl
+    at (Some class) e = by_sort class e class.sort refl

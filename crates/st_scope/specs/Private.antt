@@ -4,3 +4,6 @@ pub mod Climb
 pub mod Tables
 pub mod Scope
 pub mod Enumerators
+pub mod Bases
+pub mod Routines
+pub mod Chain

@@ -1,11 +1,16 @@
 //! What is in scope where a text stands, and what names and places mean there (IEC 61131-3:2013, 6.5.2.2, 6.6.5 and 6.6.6).
 #![tactic(auto)]
 
+mod bases;
+mod chain;
 mod climb;
 mod enumerators;
 mod places;
+mod routines;
 mod scope;
 mod tables;
+#[cfg(test)]
+mod tests;
 
-pub use scope::Scope;
+pub use scope::{Meant, Qualifier, Scope};
 pub use tables::NameTables;

@@ -175,7 +175,7 @@ pub fn place_of(table: &Places, name: &Text) -> Option<usize>
     table.get(name).copied()
 }
 
-fn variable_there(all: &[DeclaredVariable], place: Option<usize>) -> Option<&DeclaredVariable>
+pub fn variable_there(all: &[DeclaredVariable], place: Option<usize>) -> Option<&DeclaredVariable>
     ensures { MatchOption result (option_and_then (slice_get all.now) place ≡ None) (λ v. option_and_then (slice_get all.now) place ≡ Some v.now) }
 {
     all.get(place?)

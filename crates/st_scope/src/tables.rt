@@ -1,28 +1,36 @@
 //! The names of a unit, found by hash: what all texts of the unit share.
 
-ghost use Rattle.std.specs.Prelude.{◌≡◌, true, List, IfOk, MatchOption, None, Some, option_and_then, slice_get};
+ghost use Rattle.std.specs.Prelude.{◌≡◌, true, List, IfOk, MatchOption, None, Some, option_map, option_and_then, slice_get};
+ghost use Rattle.std.specs.Option.{is_some};
 ghost use Rattle.std.specs.List.{list_any};
 ghost use Rattle.st_rules.specs.declared.names.DeclaredGlobal.{DeclaredGlobal as AGlobal};
 ghost use Rattle.st_rules.specs.declared.names.TypeParts.{TypeParts as Parts};
 ghost use Rattle.st_rules.specs.Named.{first_place};
 ghost use Rattle.st_rules.specs.Chains.{nearest};
-ghost use Rattle.st_rules.specs.Classes.{chain};
+ghost use Rattle.st_rules.specs.Classes.{base_of as base_in_unit, chain, classes_in};
 ghost use Rattle.st_rules.specs.Scope as scope;
 ghost use Rattle.st_rules.specs.Scope.{first_named, Scope as AScope};
-ghost use Rattle.st_scope.specs.Tables.{Holds};
+ghost use Rattle.st_scope.specs.Tables.{Holds, Knows};
 ghost use Rattle.st_scope.specs.Private.Enumerators as enumerators;
 ghost use Rattle.st_scope.specs.Private.Places as places;
+ghost use Rattle.st_scope.specs.Private.Routines as routines;
 ghost use Rattle.st_scope.specs.Private.Places.{IsTableOf, AreTables, items_at};
 
-use crate::climb::{nearest_variable, own_variable, tables_of};
+use crate::bases::{bases_of, derived_in};
+use crate::chain::chain_of;
+use crate::climb::{base_of, nearest_variable, own_variable, tables_of, variables_at_class};
 use crate::enumerators::{first_enumerations, last_enumerations};
 use crate::places::{
     Numbers, Places, Which, fields, global_variables, globals, number_of, place_of, types, values,
 };
+use crate::routines::{is_block, method_at, prototype_at};
+use class_tables::ClassTables;
 use plc_text::{NoMemory, Text};
 use st_rules::{
-    DeclaredField, DeclaredGlobal, DeclaredNames, DeclaredType, DeclaredVariable, TypeParts,
+    DeclaredField, DeclaredGlobal, DeclaredNames, DeclaredRoutine, DeclaredType, DeclaredVariable,
+    MethodId, PrototypeId, TypeParts,
 };
+use st_tree::Unit;
 use std::alloc::Global;
 use std::marker::Model;
 
@@ -171,6 +179,7 @@ fn lone(first: Option<u32>, last: Option<u32>) -> Option<u32>
 pub struct NameTables {
     names: DeclaredNames,
     bases: Vec<Option<u32>>,
+    derived: Vec<bool>,
     types: Places,
     globals: Places,
     variables: Places,
@@ -193,19 +202,36 @@ impl Model for NameTables {
 
     ghost coded = { Prim.hlevel (codes, kind.the_row.coded) };
 
-    ghost view = { λ t. record { names = t.names; bases = t.bases.items } };
+    ghost view = { λ t. record { names = t.names; bases = t.bases.items; derived = t.derived.items } };
 
     ghost invariant = { λ t. AreNameTables t.names t.types t.globals t.variables t.first t.last t.values.items t.fields.items t.all.items t.inherited.items t.of_instance.items };
 }
 
 impl NameTables {
-    /// The tables of what a unit declares, where the base of each class is told.
+    /// The tables of a unit, from what it declares, told in the order of its text.
     pub fn build(
+        alloc: Global,
+        unit: &Unit,
+        classes: &ClassTables,
+        names: DeclaredNames,
+    ) -> Result<NameTables, NoMemory>
+        requires { classes.now ≡ unit.now }
+        ensures names { IfOk result (λ t. t.names ≡ names) }
+        ensures knows { IfOk result (λ t. Knows t (classes_in unit.now.decls)) }
+    {
+        let bases = bases_of(alloc, classes, unit)?;
+        let derived = derived_in(alloc, unit.decls.as_slice())?;
+        let tables = NameTables::with_bases(alloc, names, bases, derived)?;
+        Ok(tables)
+    }
+
+    fn with_bases(
         alloc: Global,
         names: DeclaredNames,
         bases: Vec<Option<u32>>,
+        derived: Vec<bool>,
     ) -> Result<NameTables, NoMemory>
-        ensures { IfOk result (λ t. t ≡ record { names = names; bases = bases.items }) }
+        ensures { IfOk result (λ t. t ≡ record { names = names; bases = bases.items; derived = derived.items }) }
     {
         let types = types(alloc, names.types.as_slice())?;
         let globals_table = globals(alloc, names.globals.as_slice())?;
@@ -220,6 +246,7 @@ impl NameTables {
         Ok(NameTables {
             names,
             bases,
+            derived,
             types,
             globals: globals_table,
             variables,
@@ -311,6 +338,55 @@ impl NameTables {
             Some(v) => Some((class, v)),
             None => self.inherited(class, name),
         }
+    }
+
+    /// The declaration of a method.
+    pub fn method_routine(&self, id: MethodId) -> Option<&DeclaredRoutine>
+        ensures { MatchOption result (routines.method_at self.now.names.classes id ≡ None) (λ r. routines.method_at self.now.names.classes id ≡ Some r.now) }
+    {
+        method_at(self.names.classes.as_slice(), id)
+    }
+
+    /// The declaration of a method of an interface.
+    pub fn prototype_routine(&self, id: PrototypeId) -> Option<&DeclaredRoutine>
+        ensures { MatchOption result (routines.prototype_at self.now.names.interfaces id ≡ None) (λ r. routines.prototype_at self.now.names.interfaces id ≡ Some r.now) }
+    {
+        prototype_at(self.names.interfaces.as_slice(), id)
+    }
+
+    /// The number of the base of a class, where it has one that is found.
+    pub fn base_of(&self, class: u32) -> Option<u32>
+        ensures { (s : AScope) → Holds self.now s → result ≡ base_in_unit s.classes class }
+    {
+        base_of(&self.bases, class)
+    }
+
+    /// The chain of a class: the class, its base and so on; it stops before a class that it has already.
+    pub fn chain(&self, alloc: Global, class: u32) -> Result<Vec<u32>, NoMemory>
+        ensures { (s : AScope) → Holds self.now s → IfOk result (λ classes. classes.items ≡ chain s.classes class) }
+    {
+        chain_of(alloc, &self.bases, class)
+    }
+
+    /// What a class declares itself.
+    pub fn variables_of(&self, class: u32) -> &[DeclaredVariable]
+        ensures { (s : AScope) → Holds self.now s → result.now ≡ scope.variables_of s class }
+    {
+        variables_at_class(self.names.classes.as_slice(), class)
+    }
+
+    /// Whether the class has EXTENDS; nothing where there is no such class.
+    pub fn is_derived(&self, class: u32) -> Option<bool>
+        ensures { (s : AScope) → Holds self.now s → result ≡ option_map (λ class. is_some class.base) (slice_get s.classes class) }
+    {
+        self.derived.get(class as usize).copied()
+    }
+
+    /// Whether it is a function block.
+    pub fn is_block(&self, class: u32) -> bool
+        ensures { result ≡ routines.is_block self.now.names.classes class }
+    {
+        is_block(self.names.classes.as_slice(), class)
     }
 
     /// The one enumeration that has a value of the name, and the number of the value.

@@ -48,6 +48,9 @@ has_abstract settled class = passes_if_there (λ s. not (nat_eq s.abstracts 0)) 
 abbrev pub is_public : UnitRows → MethodId → Bool
 is_public rows id = passes_if_there (λ (m : MethodRow). same_access m.access Public) (row_at rows.classes id)
 
+abbrev pub has_extends : UnitRows → ℕ → Bool
+has_extends rows class = passes_if_there (λ (row : ClassRow). row.has_extends) (slice_get rows.classes class)
+
 -- the line of a class that is not abstract
 abbrev pub line_of : ClassRow → Option ℕ
 line_of row = if row.is_abstract then None else Some row.line

@@ -1,0 +1,3 @@
+pub mod DeclarerLaws
+pub mod PrototypeLaws
+pub mod TargetLaws

@@ -1,0 +1,4 @@
+pub mod CalleeLaws
+pub mod HeadLaws
+pub mod MatchingLaws
+pub mod FaultParts

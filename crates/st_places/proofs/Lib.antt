@@ -1,0 +1,5 @@
+pub mod PlaceLaws
+pub mod RootLaws
+pub mod FixedLaws
+pub mod NoteLaws
+pub mod Joins
