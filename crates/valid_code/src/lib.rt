@@ -7,6 +7,8 @@ mod kinds;
 mod numbers;
 mod rules;
 mod tables;
+#[cfg(test)]
+mod tests;
 mod valid_code;
 mod validity;
 
