@@ -24,29 +24,27 @@ among_one j k m = ⊎_elim (λ e. e) (λ n. absurd n) m
 
 -- ---- slots
 
-slot_told : (code : MachineCode) (class s k : ℕ) → in_slot code class s ≡ Goes k → in_slot_of code class s ≡ Some k
-slot_told code class s k e = by (slice_get code.slots class) e
+pub slot_is : (code : MachineCode) (class s : ℕ) → in_slot code class s ≡ some_or_stuck (in_slot_of code class s)
+slot_is code class s = by (slice_get code.slots class)
   where
-    joined : (o : Option (Option ℕ)) → (some_or_stuck o >>= λ slot. some_or_stuck slot) ≡ Goes k → option_joined o ≡ Some k
-    joined None e = absurd (cc)
-    joined (Some None) e = absurd (cc)
-    joined (Some (Some j)) e = cc
+    joined : (o : Option (Option ℕ)) → (some_or_stuck o >>= λ slot. some_or_stuck slot) ≡ some_or_stuck (option_joined o)
+    joined None = refl
+    joined (Some None) = refl
+    joined (Some (Some j)) = refl
 
-    by : (o : Option (List (Option ℕ))) → (some_or_stuck o >>= λ slots. some_or_stuck (slice_get slots s) >>= λ slot. some_or_stuck slot) ≡ Goes k → slot_in o s ≡ Some k
-    by None e = absurd (cc)
-    by (Some slots) e = joined (slice_get slots s) e
+    by : (o : Option (List (Option ℕ))) → (some_or_stuck o >>= λ slots. some_or_stuck (slice_get slots s) >>= λ slot. some_or_stuck slot) ≡ some_or_stuck (slot_in o s)
+    by None = refl
+    by (Some slots) = joined (slice_get slots s)
 
-slot_goes : (code : MachineCode) (class s k : ℕ) → in_slot_of code class s ≡ Some k → in_slot code class s ≡ Goes k
-slot_goes code class s k e = by (slice_get code.slots class) e
-  where
-    joined : (o : Option (Option ℕ)) → option_joined o ≡ Some k → (some_or_stuck o >>= λ slot. some_or_stuck slot) ≡ Goes k
-    joined None e = absurd (cc)
-    joined (Some None) e = absurd (cc)
-    joined (Some (Some j)) e = cc
+told : (o : Option ℕ) (k : ℕ) → some_or_stuck o ≡ Goes k → o ≡ Some k
+told None k e = absurd (cc)
+told (Some j) k e = cc
 
-    by : (o : Option (List (Option ℕ))) → slot_in o s ≡ Some k → (some_or_stuck o >>= λ slots. some_or_stuck (slice_get slots s) >>= λ slot. some_or_stuck slot) ≡ Goes k
-    by None e = absurd (cc)
-    by (Some slots) e = joined (slice_get slots s) e
+pub slot_told : (code : MachineCode) (class s k : ℕ) → in_slot code class s ≡ Goes k → in_slot_of code class s ≡ Some k
+slot_told code class s k e = told (in_slot_of code class s) k (sym (slot_is code class s) ∙ e)
+
+pub slot_goes : (code : MachineCode) (class s k : ℕ) → in_slot_of code class s ≡ Some k → in_slot code class s ≡ Goes k
+slot_goes code class s k e = slot_is code class s ∙ ap some_or_stuck e
 
 -- ---- classes that conform
 
@@ -134,12 +132,8 @@ among_target table (t ∷ ts) i m k n = by (λ l. among_target table ts i m k l)
     by rest true n = one rest (first_target table t.class i m) refl n
     by rest false n = rest n
 
-told_target : (o : Option ℕ) (k : ℕ) → some_or_stuck o ≡ Goes k → o ≡ Some k
-told_target None k e = absurd (cc)
-told_target (Some j) k e = cc
-
 pub may_target : (code : MachineCode) (i m k : ℕ) → MayEnterTarget code i m k → IsAmong k (targets_of code.targets code.targets i m)
-may_target code i m k t = let e = told_target (first_target code.targets t.0 i m) k t.1 in target_among code.targets code.targets t.0 i m k k e e
+may_target code i m k t = let e = told (first_target code.targets t.0 i m) k t.1 in target_among code.targets code.targets t.0 i m k k e e
 
 pub target_may : (code : MachineCode) (i m k : ℕ) → IsAmong k (targets_of code.targets code.targets i m) → MayEnterTarget code i m k
 target_may code i m k n = let r = among_target code.targets code.targets i m k n in (r.0, ap some_or_stuck r.1)

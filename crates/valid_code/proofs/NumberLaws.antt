@@ -7,10 +7,10 @@ use Rattle.stack_code.specs.declared.op.Op.{Op}
 use Rattle.stack_code.specs.declared.op.Op.TheVariants as op
 use Rattle.stack_code.specs.declared.code.RoutineCode.{RoutineCode}
 use Rattle.stack_code.specs.declared.code.MachineCode.{MachineCode}
-use Rattle.stack_code.specs.Steps.{Goes, ◌>>=◌, some_or_stuck}
-use Rattle.stack_code.specs.Machine.{in_slot}
 use Rattle.stack_code.specs.Validity.{IsValidRoutine, IsValid}
+use Rattle.valid_code.specs.Private.Calls.{slot_in, option_joined, in_slot_of}
 use Rattle.valid_code.specs.Private.Checks.{op_within, calls_within, slot_within, slots_within, AreWithin}
+use Rattle.valid_code.proofs.MayLaws.{slot_told, slot_goes}
 
 and_both : (a b : Bool) → (a && b) ≡ true → (a ≡ true) × (b ≡ true)
 and_both true true e = (refl, refl)
@@ -76,18 +76,15 @@ within_op count (op.Ret n) each = refl
 within_op count op.End each = refl
 
 module _ (code : MachineCode) where
-  slot_of : (slots : List (Option ℕ)) (class s k : ℕ) → slice_get code.slots class ≡ Some slots → slice_get slots s ≡ Some (Some k) → in_slot code class s ≡ Goes k
-  slot_of slots class s k es eo = ap (λ o. some_or_stuck o >>= λ list. some_or_stuck (slice_get list s) >>= λ slot. some_or_stuck slot) es ∙ ap (λ o. some_or_stuck o >>= λ slot. some_or_stuck slot) eo
-
-  slot_below : (w : AreWithin code) (class s k : ℕ) → in_slot code class s ≡ Goes k → k < length code.routines
+  slot_below : (w : AreWithin code) (class s k : ℕ) → in_slot_of code class s ≡ Some k → k < length code.routines
   slot_below w class s k e = by (slice_get code.slots class) refl e
     where
-      inner : (slots : List (Option ℕ)) → list_all (slot_within (length code.routines)) slots ≡ true → (o : Option (Option ℕ)) → slice_get slots s ≡ o → (some_or_stuck o >>= λ slot. some_or_stuck slot) ≡ Goes k → k < length code.routines
+      inner : (slots : List (Option ℕ)) → list_all (slot_within (length code.routines)) slots ≡ true → (o : Option (Option ℕ)) → slice_get slots s ≡ o → option_joined o ≡ Some k → k < length code.routines
       inner slots all None is e = absurd (cc)
       inner slots all (Some None) is e = absurd (cc)
       inner slots all (Some (Some j)) is e = let same : j ≡ k = cc in subst (λ x. x < length code.routines) same (ltb-true j (length code.routines) (each_of (slot_within (length code.routines)) slots s (Some j) all is))
 
-      by : (o : Option (List (Option ℕ))) → slice_get code.slots class ≡ o → (some_or_stuck o >>= λ slots. some_or_stuck (slice_get slots s) >>= λ slot. some_or_stuck slot) ≡ Goes k → k < length code.routines
+      by : (o : Option (List (Option ℕ))) → slice_get code.slots class ≡ o → slot_in o s ≡ Some k → k < length code.routines
       by None is e = absurd (cc)
       by (Some slots) is e = inner slots (each_of (slots_within (length code.routines)) code.slots class slots w.slots is) (slice_get slots s) refl e
 
@@ -96,7 +93,7 @@ module _ (code : MachineCode) where
   valid_of w routines = record {
     routines = routines;
     calls = λ j r at k n er eo. ltb-true k (length code.routines) (each_of (op_within (length code.routines)) r.ops at (op.Call k n) (each_of (calls_within (length code.routines)) code.routines j r w.calls er) eo);
-    slots = λ class s k e. slot_below w class s k e;
+    slots = λ class s k e. slot_below w class s k (slot_told code class s k e);
     targets = λ i t e. ltb-true t.routine (length code.routines) (each_of (λ x. nat_lt x.routine (length code.routines)) code.targets i t w.targets e);
     bodies = λ i b e. ltb-true b.routine (length code.routines) (each_of (λ x. nat_lt x.routine (length code.routines)) code.bodies i b w.bodies e);
     methods = λ i m e. ltb-true m.routine (length code.routines) (each_of (λ x. nat_lt x.routine (length code.routines)) code.methods i m w.methods e);
@@ -107,7 +104,7 @@ module _ (code : MachineCode) where
     where
       slot : (class : ℕ) (slots : List (Option ℕ)) (s : ℕ) (o : Option ℕ) → slice_get code.slots class ≡ Some slots → slice_get slots s ≡ Some o → slot_within (length code.routines) o ≡ true
       slot class slots s None es eo = refl
-      slot class slots s (Some k) es eo = lt-ltb k (length code.routines) (v.slots class s k (slot_of slots class s k es eo))
+      slot class slots s (Some k) es eo = lt-ltb k (length code.routines) (v.slots class s k (slot_goes code class s k (ap (λ o. slot_in o s) es ∙ ap option_joined eo)))
 
       calls : list_all (calls_within (length code.routines)) code.routines ≡ true
       calls = all_of (calls_within (length code.routines)) code.routines (λ j r er. all_of (op_within (length code.routines)) r.ops (λ at o eo. within_op (length code.routines) o (λ k n same. v.calls j r at k n er (eo ∙ ap Some same))))

@@ -51,7 +51,7 @@ pub fn with_routine(code: &MachineCode, common: Common, k: u32) -> Common
 }
 
 /// The routine in the slot of the class.
-fn in_slot(code: &MachineCode, class: u32, slot: u32) -> Option<u32>
+pub fn in_slot(code: &MachineCode, class: u32, slot: u32) -> Option<u32>
     ensures { c.in_slot_of code.now class slot ≡ result }
 {
     let slots = code.slots.get(class as usize)?;

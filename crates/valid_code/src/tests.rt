@@ -195,9 +195,11 @@ fn is_valid(alloc: Global, cells: &str) -> Result<bool, NoMemory> {
     Ok(valid.is_some())
 }
 
-#[test]
-fn tells_rule_by_rule(rt: HostRuntime) -> Result<(), Fail> {
-    let cases = [
+/// What a rule asks for, code that has it not, and code that has it.
+type Case = (&'static str, &'static str, &'static str);
+
+fn cases() -> [Case; 36] {
+    [
         ("a first instruction", "", ". END"),
         ("a first list", "- END", ". END"),
         ("an empty first list", "N RET 1", ". PUSH;N RET 1"),
@@ -338,8 +340,12 @@ fn tells_rule_by_rule(rt: HostRuntime) -> Result<(), Fail> {
             ". NULL;A NULL;AA CALLI 0 2 1;. END",
             ". NULL;A PUSH;AN CALLI 0 2 1;N RET 1",
         ),
-    ];
-    for (what, broken, mended) in cases {
+    ]
+}
+
+#[test]
+fn tells_rule_by_rule(rt: HostRuntime) -> Result<(), Fail> {
+    for (what, broken, mended) in cases() {
         assert!(rt; !is_valid(rt.alloc(), broken)?, "{what}");
         assert!(rt; is_valid(rt.alloc(), mended)?, "{what}");
     }
@@ -387,6 +393,9 @@ fn looks_up(rt: HostRuntime) -> Result<(), Fail> {
         }
         for (class, method, want) in [(0, 2, Some(1)), (1, 1, Some(2)), (2, 0, None)] {
             assert_eq!(rt; code.target(class, 0, method), want, "{method} of {class}");
+        }
+        for (class, slot, want) in [(1, 0, Some(3)), (0, 1, None), (2, 9, None), (9, 0, None)] {
+            assert_eq!(rt; code.slot(class, slot), want, "slot {slot} of {class}");
         }
     }
     Ok(())

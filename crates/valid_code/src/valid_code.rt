@@ -1,9 +1,11 @@
 //! Valid code, with its tables by what they are asked for.
 
 ghost use Rattle.std.specs.Prelude.{◌≡◌, IfOk, SomeIff};
-ghost use Rattle.stack_code.specs.Machine.{first_target, conforms};
+ghost use Rattle.stack_code.specs.Steps.{some_or_stuck};
+ghost use Rattle.stack_code.specs.Machine.{first_target, in_slot, conforms};
 ghost use Rattle.stack_code.specs.Validity.{IsValid};
 
+use crate::calls::in_slot;
 use crate::tables::{Implemented, Pair, implementations, pairs};
 use crate::validity::is_valid;
 use plc_text::NoMemory;
@@ -45,6 +47,13 @@ impl ValidCode {
         ensures { result ≡ conforms self.now class target }
     {
         self.conforming.contains(&(class, target))
+    }
+
+    /// The routine in a slot of a class.
+    pub fn slot(&self, class: u32, slot: u32) -> Option<u32>
+        ensures { some_or_stuck result ≡ in_slot self.now class slot }
+    {
+        in_slot(&self.code, class, slot)
     }
 
     /// The routine by which a class implements a method of an interface.
