@@ -21,8 +21,8 @@ fn add(alloc: Global, made: &mut RoutineCode, op: Op) -> Result<(), NoMemory> {
     Ok(())
 }
 
-/// A routine whose first instruction ends the run.
-fn ended(alloc: Global, name: &str) -> Result<RoutineCode, NoMemory> {
+/// A routine whose first instruction ends the run, with these behind it.
+fn routine(alloc: Global, name: &str, ops: &[Op]) -> Result<RoutineCode, NoMemory> {
     let mut made = RoutineCode {
         name: Text::copy(alloc, name)?,
         line: 1,
@@ -35,6 +35,9 @@ fn ended(alloc: Global, name: &str) -> Result<RoutineCode, NoMemory> {
         room: 0,
     };
     add(alloc, &mut made, Op::End)?;
+    for op in ops {
+        add(alloc, &mut made, *op)?;
+    }
     Ok(made)
 }
 
@@ -107,21 +110,9 @@ fn code(alloc: Global) -> Result<MachineCode, NoMemory> {
         bodies: Items::new(alloc),
         methods: Items::new(alloc),
     };
-    let mut first = ended(alloc, "MAIN")?;
-    for op in moves() {
-        add(alloc, &mut first, op)?;
-    }
-    let mut second = ended(alloc, "Motor.Start")?;
-    for op in sums() {
-        add(alloc, &mut second, op)?;
-    }
-    let mut third = ended(alloc, "C.M")?;
-    for op in ways() {
-        add(alloc, &mut third, op)?;
-    }
-    made.routines.push(first)?;
-    made.routines.push(second)?;
-    made.routines.push(third)?;
+    made.routines.push(routine(alloc, "MAIN", &moves())?)?;
+    made.routines.push(routine(alloc, "Motor.Start", &sums())?)?;
+    made.routines.push(routine(alloc, "C.M", &ways())?)?;
     Ok(made)
 }
 
