@@ -1,4 +1,3 @@
-pub mod KindLaws
 pub mod Sound
 pub mod Ends
 pub mod OneResult

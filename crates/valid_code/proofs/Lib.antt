@@ -1,0 +1,12 @@
+pub mod CallLaws
+pub mod EnteredLaws
+pub mod FineLaws
+pub mod FlowLaws
+pub mod KindLaws
+pub mod KindLists
+pub mod MayLaws
+pub mod NumberLaws
+pub mod PlaceLaws
+pub mod RoutineLaws
+pub mod SplitLaws
+pub mod TableLaws

@@ -1,0 +1,10 @@
+use Rattle.std.proofs.Common.{rules, ◌≡◌, []}
+use Rattle.std.specs.Prelude.{Some, slice_get}
+use Rattle.valid_code.proofs.KindLists.{listed_is}
+use Rattle.valid_code.proofs.validity.begins_empty.Goals as goal
+
+pub returns-in-Some-Some : goal.returns-in-Some-Some
+returns-in-Some-Some c =
+    let list : slice_get c.args.routine.now.kinds 0 ≡ Some (Some c.in-Some-Some.kinds) = search rules in
+    let both = listed_is _ _ [] list in
+    (λ t. both.0 (c.is_empty.ensures.0 t), λ e. c.is_empty.ensures.1 (both.1 e))

@@ -1,0 +1,15 @@
+//! Which code of the stack machine is valid, and valid code with its tables by what they are asked for.
+#![tactic(auto)]
+
+mod calls;
+mod entered;
+mod kinds;
+mod numbers;
+mod rules;
+mod tables;
+#[cfg(test)]
+mod tests;
+mod valid_code;
+mod validity;
+
+pub use valid_code::{ValidCode, validate};
