@@ -1,5 +1,5 @@
 -- What each rule's function has to show.
-use Rattle.std.proofs.Common.{◌≡◌, ℕ, suc, ◌+◌, ◌<◌, ◌≤◌, Bool, true, false, List, [], ◌∷◌, ◌++◌, Option, Some, None, length, drop, refl, sym, ◌∙◌, ap, subst, arith, add-one, length-drop, eqb-true, if◌then◌else◌, ◌==◌}
+use Rattle.std.proofs.Common.{◌≡◌, ℕ, suc, ◌<◌, ◌≤◌, true, false, List, [], ◌∷◌, ◌++◌, Option, Some, None, length, drop, refl, sym, ◌∙◌, ap, subst, arith}
 use Rattle.st_types.specs.declared.elem.Elem.{Elem}
 use Rattle.st_types.specs.declared.elem.Elem.TheVariants as kind
 use Rattle.st_tree.specs.declared.terminal.Terminal.{Terminal}
@@ -11,19 +11,16 @@ use Rattle.st_tree.specs.declared.expression.Root.TheVariants as roots
 use Rattle.st_tree.specs.declared.expression.Expr.{Expr}
 use Rattle.st_tree.specs.declared.expression.Selector.{Selector as CodeSelector}
 use Rattle.st_tree.specs.declared.expression.Argument.{Argument as CodeArgument}
-use Rattle.st_tree.specs.declared.expression.Tail.{Tail}
 use Rattle.st_tree.specs.Expression.{expression_of, selector_of, argument_of, tail_of, expressions_of, selectors_of, arguments_of, tails_of, tail_of-note, tail_of-operator, tail_of-operand}
 use Rattle.st_tree.specs.Expression as expr
 use Rattle.st_tree.specs.Expression.{Expression, Expressions, no_expressions, expression_then, Selector, Selectors, no_selectors, selector_then, Argument, Arguments, no_arguments, argument_then, Tails, no_tails, tail_then}
-use Rattle.st_tree.specs.Grammar.{Lexeme, At, NotNext, ◌⋆◌, lexeme, sign, spelled, word, operator_of, level, operator_at, literal, root, expression, first_tail, tails, selectors, selector, first_expression, more_expressions, arguments, more_arguments, argument}
+use Rattle.st_tree.specs.Grammar.{Lexeme, At, NotNext, ◌⋆◌, lexeme, sign, spelled, word, operator_of, level, literal, root, expression, selectors, selector, first_expression, more_expressions, arguments, more_arguments, argument}
 use Rattle.st_parser_expr.specs.declared.stop.Stop.{Stop}
 use Rattle.st_parser_expr.specs.declared.stop.Stop.TheVariants.{Left, NoMemory}
 use Rattle.st_parser_expr.specs.declared.stop.Naming.TheVariants as naming
 use Rattle.st_parser_expr.specs.Private.Machine.{Follow, calls, reference_end, arguments_end, operand, more_tails, selecting, behind_name, root_next, behind_kind, comma_or_bracket, first_argument, argument_next, behind_argument, comma_or_close, State, go_on, on_root, machine, NoOperator, NoSelector, NoNaming, IsNoNaming, Looser}
-use Rattle.st_parser_expr.specs.Private.Promises.{next_terminal, TextTaken, LineOf, if_level, next_operator_at, is_hash, is_enumerator_by, is_enumerator, naming_behind, naming_by, naming_of, is_root, Fails, Passes, Parses, Selects, SelectFails, same, for_expr, for_operand, for_tails, for_selectors, for_indices, for_more_indices, for_arguments, for_argument, for_more, for_root, for_name, for_literal, for_close, for_reference}
+use Rattle.st_parser_expr.specs.Private.Promises.{next_terminal, TextTaken, LineOf, is_hash, is_enumerator_by, is_enumerator, naming_behind, naming_by, naming_of, is_root, Fails, Passes, Parses, Selects, SelectFails, same, for_expr, for_operand, for_tails, for_selectors, for_indices, for_more_indices, for_arguments, for_argument, for_more, for_root, for_name, for_literal, for_close, for_reference}
 use Rattle.st_parser_expr.proofs.MachineLaws.{on-sign, signed, machine-more_tails, machine-calls, machine-sent, machine-referred, machine-behind_name, Positional, machine-argument, machine-first_argument}
-use Rattle.st_parser_expr.proofs.Passes.{machine-operator}
-use Rattle.st_parser_expr.proofs.Groups.{note-is, expression-looser}
 
 -- ---- single lexemes
 
@@ -519,76 +516,3 @@ reads-output line n later r s a old m m' m'' rest is at h t is' at' rr rs ends =
       passes = λ k. passes-output_root n r old m m' m'' h t is' rr k ∙ (rs arguments_end).passes k ∙ machine-sent k rest ends;
       shorter = omega (arith, spelled-shorter x.Word n old m w, sign-shorter x.Sends m m' w', rr.shorter, (rs calls).shorter);
     })
-
--- ---- chains
-
-abbrev pub tails_onto : List (Tail ℕ) → Tails ℕ → Tails ℕ
-tails_onto [] s = s
-tails_onto (t ∷ ts) s = tail_then (tail_of t).0 (tail_of t).1 (tail_of t).2 (tails_onto ts s)
-
-tails_onto-push : (ts : List (Tail ℕ)) (t : Tail ℕ) (s : Tails ℕ) → tails_onto (ts ++ t ∷ []) s ≡ tails_onto ts (tail_then (tail_of t).0 (tail_of t).1 (tail_of t).2 s)
-tails_onto-push [] t s = refl
-tails_onto-push (u ∷ ts) t s = ap (tail_then (tail_of u).0 (tail_of u).1 (tail_of u).2) (tails_onto-push ts t s)
-
-tails_onto-none : (ts : List (Tail ℕ)) → tails_onto ts no_tails ≡ tails_of ts
-tails_onto-none [] = refl
-tails_onto-none (u ∷ ts) = ap (tail_then (tail_of u).0 (tail_of u).1 (tail_of u).2) (tails_onto-none ts)
-
-pub record TailsSoFar (row at : ℕ) (found : List (Tail ℕ)) (ts now' : List Lexeme) : Type 0 where
-  pub spelled : (t : Tails ℕ) (rest : List Lexeme) → tails t row at now' rest → tails (tails_onto found t) row at ts rest
-  pub passes : Passes for_tails for_tails ts now'
-  pub shorter : length now' ≤ length ts
-  pub looser : Looser (at + 1) ts → Looser (at + 1) now'
-
-pub chain-alone : (e : Expression ℕ) (row l : ℕ) (ts m rest : List Lexeme) → Parses (expression e (l + 1)) for_expr for_tails ts m → Parses (tails no_tails row l) for_tails for_tails m rest
-    → Parses (expression e l) for_expr for_tails ts rest
-chain-alone e row l ts m rest r none = record {
-  spelled = rw (← none.spelled) (expression-looser e (l + 1) l ts m (omega arith) r.spelled);
-  passes = λ k. r.passes k ∙ none.passes k;
-  shorter = omega (arith, r.shorter, none.shorter);
-}
-
-tails-some : (t : List (Tail ℕ)) (row l : ℕ) (ts rest : List Lexeme) → (t ≡ [] → ⊥) → tails (tails_of t) row l ts rest → first_tail (tails_of t) row l ts rest
-tails-some [] row l ts rest some h = absurd (some refl)
-tails-some (u ∷ t) row l ts rest some h = h
-
-pub chain-chained : (line : ℕ) (e : Expression ℕ) (t : List (Tail ℕ)) (l : ℕ) (ts m rest : List Lexeme) → LineOf ts line → l < 7 → (t ≡ [] → ⊥) → Parses (expression e (l + 1)) for_expr for_tails ts m
-    → Parses (tails (tails_of t) line l) for_tails for_tails m rest → Parses (expression (expr.Chain line e (tails_of t)) l) for_expr for_tails ts rest
-chain-chained line e t l ts m rest at small some r rt = record {
-  spelled = (line_noted line _ ts at (note-is e (l + 1) ts m r.spelled), (l, omega arith, small, (m, rw add-one at r.spelled, tails-some t line l m rest some rt.spelled)));
-  passes = λ k. r.passes k ∙ rt.passes k;
-  shorter = omega (arith, r.shorter, rt.shorter);
-}
-
-level_is : (l : ℕ) (p q : Operator) → if_level l (Some p) ≡ Some q → (level q ≡ l) × (p ≡ q)
-level_is l p q h = at (level p == l) refl h
-  where
-    at : (b : Bool) → (level p == l) ≡ b → (if b then Some p else None) ≡ Some q → (level q ≡ l) × (p ≡ q)
-    at true e h = let same : p ≡ q = cc in (rw (← same) (eqb-true (level p) l e), same)
-    at false e h = cc
-
-operator_next : (l : ℕ) (m m' : List Lexeme) (p : Operator) → next_operator_at l m ≡ Some p → m' ≡ drop 1 m → operator_at l p m m'
-operator_next l [] m' p h e = cc
-operator_next l (u ∷ us) m' p h e = at (operator_of u.terminal) refl h
-  where
-    at : (o : Option Operator) → operator_of u.terminal ≡ o → if_level l o ≡ Some p → operator_at l p (u ∷ us) m'
-    at None is h = cc
-    at (Some q) is h = let f = level_is l q p h in (u, (rw is (ap Some f.1), f.0), rw e refl)
-
-pub tails-next : (row l : ℕ) (found : List (Tail ℕ)) (p : Operator) (ts m m' : List Lexeme) → TailsSoFar row l found ts m → next_operator_at l m ≡ Some p → m' ≡ drop 1 m → Passes for_tails for_expr ts m'
-tails-next row l found p ts m m' so is next k = so.passes k ∙ machine-operator l p k m m' (operator_next l m m' p is next)
-
-pub tails-pushed : (row l : ℕ) (found : List (Tail ℕ)) (t : Tail ℕ) (ts m m' now' : List Lexeme) → TailsSoFar row l found ts m → t.note ≡ row → next_operator_at l m ≡ Some t.operator → m' ≡ drop 1 m
-    → Parses (expression (expression_of t.operand) (l + 1)) for_expr for_tails m' now' → Looser (l + 1) now' → TailsSoFar row l (found ++ t ∷ []) ts now'
-tails-pushed row l found t ts m m' now' so noted is next r h =
-    let o = operator_next l m m' t.operator is next in
-    record {
-      spelled = λ u rest h'. rw (tails_onto-push, tail_of-note, tail_of-operator, tail_of-operand)
-          (so.spelled (tail_then t.note t.operator (expression_of t.operand) u) rest (noted, (m', o, (now', rw add-one at r.spelled, h'))));
-      passes = λ k. tails-next row l found t.operator ts m m' so is next k ∙ r.passes k;
-      shorter = omega (arith, so.shorter, r.shorter, ap length next, length-drop 1 m);
-      looser = λ _. h;
-    }
-
-pub tails-read : (row l : ℕ) (found : List (Tail ℕ)) (ts rest : List Lexeme) → TailsSoFar row l found ts rest → Parses (tails (tails_of found) row l) for_tails for_tails ts rest
-tails-read row l found ts rest so = record { spelled = rw (← tails_onto-none found) (so.spelled no_tails rest refl); passes = so.passes; shorter = so.shorter }

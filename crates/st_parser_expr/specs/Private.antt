@@ -3,3 +3,4 @@ pub mod Machine
 pub mod Promises
 pub mod Depth
 pub mod Faults
+pub mod Levels
