@@ -78,7 +78,7 @@ module _ (decls : List (Decl ℕ)) where
   search : (n : ℕ) → ((i : ℕ) → i < n → faults_at decls i ≡ []) ⊎ ((i : ℕ) × Bad i)
   search zero = inl (λ i h. absurd (omega arith))
   search (suc n) = elim (search n) [
-      inl g ↦ elim (decide n g (least (faults_at decls n)) (least_breaks_first (faults_at decls n))) [ inl k ↦ inl k | inr b ↦ inr (n, b) ]
+    | inl g ↦ elim (decide n g (least (faults_at decls n)) (least_breaks_first (faults_at decls n))) [ inl k ↦ inl k | inr b ↦ inr (n, b) ]
     | inr b ↦ inr b
   ]
 
@@ -114,7 +114,7 @@ module _ (decls : List (Decl ℕ)) where
 
   pub decided : IsGood decls ⊎ Refused
   decided = elim (search (length (placed decls))) [
-      inl g ↦ configured (all_good g) (configurations_in decls) refl
+    | inl g ↦ configured (all_good g) (configurations_in decls) refl
     | inr b ↦ inr (refused b.0 b.1 (there b.0 (slice_get (placed decls) b.0) refl b.1.code b.1.line b.1.breaks.broken))
   ]
 
@@ -145,7 +145,7 @@ module _ (decls : List (Decl ℕ)) where
 
   both_bad : (code code' : Code) (declaration declaration' : List ℕ) (line line' : ℕ) → IsFirstBad decls code declaration line → IsFirstBad decls code' declaration' line' → Same code code' declaration declaration' line line'
   both_bad code code' declaration declaration' line line' a b = elim (order a.place b.place) [
-      inl p ↦ absurd (none_broken _ code line (b.good a.place p) a.breaks.broken)
+    | inl p ↦ absurd (none_broken _ code line (b.good a.place p) a.breaks.broken)
     | inr q ↦ elim q [ inl p ↦ absurd (none_broken _ code' line' (a.good b.place p) b.breaks.broken) | inr p ↦ at_one code code' declaration declaration' line line' a b p ]
   ]
 
