@@ -98,13 +98,15 @@ module _ (decls : List (Decl ℕ)) where
   result_too_deep s line None = []
   result_too_deep s line (Some t) = too_deep s (declarations decls) 64 line t
 
-  -- the limits of a routine, at its heading, but the depth of its variables at their items
-  abbrev pub routine_limits : Scope → ℕ → Option (TypeSpec ℕ) → List (Section ℕ) → Faults
-  routine_limits s line result sections =
+  -- the limits of parameters, at the heading, but the depth of each variable at its item
+  abbrev pub parameter_limits : Scope → ℕ → Option (TypeSpec ℕ) → List (Section ℕ) → Faults
+  parameter_limits s line result sections =
       too_many_parameters line (count_parameters sections)
-      ++ too_many_locals line (all_values s (filter is_local s.locals))
       ++ flat_map (item_too_deep s) (items_in sections)
       ++ result_too_deep s line result
+
+  abbrev pub local_limits : Scope → ℕ → Faults
+  local_limits s line = too_many_locals line (all_values s (filter is_local s.locals))
 
   -- `s` is the scope with the locals
   abbrev pub routine_faults : Scope → Home → ℕ → List ℕ → Option (TypeSpec ℕ) → List (Section ℕ) → List (Stmt ℕ) → Faults
@@ -112,7 +114,8 @@ module _ (decls : List (Decl ℕ)) where
       sections_faults s home sections
       ++ result_faults s line result
       ++ inner_cycles (sections_written sections)
-      ++ routine_limits s line result sections
+      ++ parameter_limits s line result sections
+      ++ local_limits s line
       ++ body_faults s (statements_of text)
 
   abbrev pub method_faults : ℕ → Method ℕ → Faults
@@ -122,7 +125,12 @@ module _ (decls : List (Decl ℕ)) where
       ++ routine_faults (method_scope decls names c m) of_routine m.line m.name.text m.result m.sections m.body
 
   abbrev pub prototype_faults : Prototype ℕ → Faults
-  prototype_faults m = routine_faults (prototype_scope decls names m) of_prototype m.line m.name.text m.result m.sections []
+  prototype_faults m =
+      let s = prototype_scope decls names m in
+      sections_faults s of_prototype m.sections
+      ++ result_faults s m.line m.result
+      ++ inner_cycles (sections_written m.sections)
+      ++ parameter_limits s m.line m.result m.sections
 
   -- ---- entries of TYPE
 
