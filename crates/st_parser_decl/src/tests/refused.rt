@@ -1,0 +1,98 @@
+//! The first bad token of a text, its declaration and line.
+
+use super::check;
+use std::test::Fail;
+
+/// Texts and how they are refused.
+const REFUSED: [(&str, &str); 70] = [
+    ("5", "E02 - 1"),
+    ("P", "E02 - 1"),
+    ("END_PROGRAM", "E02 - 1"),
+    ("PROGRAM", "E02 - 1"),
+    ("PROGRAM\n5", "E02 - 2"),
+    ("PROGRAM\n5\nP", "E02 - 2"),
+    ("PROGRAM\nABSTRACT\nP", "E02 P 2"),
+    ("PROGRAM\nP\nEND_PROGRAM\n5", "E02 P 4"),
+    ("CLASS\nABSTRACT\nFINAL\nC\n5", "E02 C 5"),
+    ("CLASS\nABSTRACT\n", "E02 - 3"),
+    ("FUNCTION\nf\n:\n5", "E02 F 4"),
+    ("PROGRAM\nP\nx\n:=\n;", "E02 P 5"),
+    ("PROGRAM\nP\nx\n:=\n", "E02 P 5"),
+    ("PROGRAM\nP\nx\n:=\n1\nEND_PROGRAM", "E02 P 6"),
+    ("PROGRAM\nP\nx\n=\n1\n;", "E02 P 4"),
+    ("PROGRAM\nP\nVAR_GLOBAL", "E02 P 3"),
+    ("PROGRAM\nP\nx\n(\n)\n;\nVAR\nEND_VAR", "E02 P 7"),
+    ("PROGRAM\nP\nf\n(\n)\n[\n0\n]", "E02 P 6"),
+    ("PROGRAM\nP\nTIME\n(\n)\n;", "E02 P 3"),
+    ("PROGRAM\nP\nx\n:=\nT\n#\n5\ns\n;", "E02 P 7"),
+    ("PROGRAM\nP\nIF\na\nTHEN\nELSE\nELSIF", "E02 P 7"),
+    ("PROGRAM\nP\nIF\na\nTHEN\nELSE\nELSE", "E02 P 7"),
+    ("PROGRAM\nP\nIF\na\nDO", "E02 P 5"),
+    ("PROGRAM\nP\nCASE\nx\nOF\n;", "E02 P 6"),
+    ("PROGRAM\nP\nCASE\nx\nOF\na\n(", "E02 P 7"),
+    ("PROGRAM\nP\nCASE\nx\nOF\na\n.\nb\n.", "E02 P 9"),
+    ("PROGRAM\nP\nCASE\nx\nOF\n1\n:\nELSE\n2", "E02 P 9"),
+    ("PROGRAM\nP\nCASE\nx\nOF\n1\n:\nIF\na\nTHEN\n2", "E02 P 11"),
+    (
+        "PROGRAM\nP\nCASE\nx\nOF\n1\n:\nIF\na\nTHEN\nb\n:\n",
+        "E02 P 12",
+    ),
+    (
+        "PROGRAM\nP\nCASE\nx\nOF\n1\n:\na\n.\nb\n.\nc\n:",
+        "E02 P 13",
+    ),
+    ("PROGRAM\nP\nFOR\ni\n=\n1", "E02 P 5"),
+    ("PROGRAM\nP\nFOR\ni\n.\nj", "E02 P 5"),
+    ("PROGRAM\nP\nWHILE\nDO", "E02 P 4"),
+    ("PROGRAM\nP\nREPEAT\nEND_REPEAT", "E02 P 4"),
+    ("PROGRAM\nP\nEXIT\nx", "E02 P 4"),
+    ("PROGRAM\nP\nRETURN\n1\n;", "E02 P 4"),
+    ("VAR_GLOBAL\nPUBLIC", "E02 - 2"),
+    ("VAR_GLOBAL\na\nINT", "E02 - 3"),
+    ("VAR_GLOBAL\na\n:", "E02 - 3"),
+    ("VAR_GLOBAL\na\nAT\n5", "E02 - 4"),
+    ("VAR_GLOBAL\na\n:\nINT\n:=\n[\n]\n;", "E02 - 7"),
+    ("VAR_GLOBAL\na\n:\nINT\n:=\n[\n1\n(\n2\n)\n3", "E02 - 11"),
+    ("VAR_GLOBAL\na\n:\nINT\n:=\n(\nb\n:=\n1\n;", "E02 - 10"),
+    ("VAR_GLOBAL\na\n:\nINT\n:=\n(\n(\nb\n:=\n1", "E02 - 9"),
+    ("VAR_GLOBAL\na\n:\nINT\nEND_VAR", "E02 - 5"),
+    ("VAR_GLOBAL\nEND_VAR\nVAR", "E02 - 3"),
+    ("TYPE\nA\n:\n(\n)", "E02 A 5"),
+    ("TYPE\nA\n:\n(\nb\nc\n)", "E02 A 6"),
+    ("TYPE\nA\n:\nSTRUCT\n;", "E02 A 5"),
+    ("TYPE\nA\n:\nARRAY\n[\n1\n]", "E02 A 7"),
+    ("TYPE\nA\n:\nARRAY\n[\n1\n..\n2\n]\nINT", "E02 A 10"),
+    ("TYPE\nA\n:\nREF_TO\nINT", "E02 A 5"),
+    ("TYPE\nA\n:\nINT\n:=\n1\n;", "E02 A 5"),
+    ("TYPE\nA\n:\n(\nb\n)\n:=\nb", "E02 A 7"),
+    ("INTERFACE\nI\nVAR", "E02 I 3"),
+    ("INTERFACE\nI\nMETHOD\nPUBLIC", "E02 I 4"),
+    ("INTERFACE\nI\nMETHOD\nm\nx", "E02 I 5"),
+    ("INTERFACE\nI\nIMPLEMENTS", "E02 I 3"),
+    ("CLASS\nC\nEXTENDS\nD\n,", "E02 C 5"),
+    ("CLASS\nC\nIMPLEMENTS\nI\nEXTENDS", "E02 C 5"),
+    ("CLASS\nC\nx\n:=\n1\n;", "E02 C 3"),
+    ("CLASS\nC\nMETHOD\nm\nx\n:=\n1\n;\nVAR", "E02 C 9"),
+    ("FUNCTION_BLOCK\nB\nx\n:=\n1\n;\nMETHOD", "E02 B 7"),
+    ("FUNCTION\nf\n:\nINT\n:\nINT", "E02 F 5"),
+    ("CONFIGURATION\nc\nTASK\nt\n(\n5", "E02 C 6"),
+    ("CONFIGURATION\nc\nTASK\nt\n(\na\n:=\nb", "E02 C 8"),
+    (
+        "CONFIGURATION\nc\nTASK\nt\n(\n)\n;\nPROGRAM\nBelt\n:\nx",
+        "E02 BELT 10",
+    ),
+    (
+        "CONFIGURATION\nc\nPROGRAM\np\nWITH\nt\n:\nq\n;\nTASK",
+        "E02 P 10",
+    ),
+    (
+        "CONFIGURATION\nc\nRESOURCE\nr\nON\ncpu\nTASK\nt\n(\n)\n;\nEND_CONFIGURATION",
+        "E02 C 12",
+    ),
+    ("CONFIGURATION\nc\nVAR", "E02 C 3"),
+];
+
+#[test]
+fn others_are_refused(rt: HostRuntime) -> Result<(), Fail> {
+    check(&rt, rt.alloc(), &REFUSED, ("", ""), ("", ""))
+}
