@@ -1,0 +1,12 @@
+-- Laws of acceptance and refusal.
+use Rattle.std.specs.Prelude.{◌≡◌, ℕ, List}
+use Rattle.plc_text.specs.declared.code.Code.{Code}
+use Rattle.st_tree.specs.declared.program.Program.{Program}
+use Rattle.st_accepted.specs.Accepted.{Accepted, RefusedFor}
+
+pub record AcceptedLaws : Type 0 where
+  -- what is accepted is not refused
+  pub never_both : (prelude text : List ℕ) (p : Program) (code : Code) (declaration : List ℕ) (line : ℕ) → Accepted prelude text p → RefusedFor prelude text code declaration line → ⊥
+  -- a text has one refusal
+  pub one_refusal : (prelude text : List ℕ) (code code' : Code) (declaration declaration' : List ℕ) (line line' : ℕ) → RefusedFor prelude text code declaration line → RefusedFor prelude text code' declaration' line'
+      → (code ≡ code') × (declaration ≡ declaration') × (line ≡ line')

@@ -1,0 +1,6 @@
+//! What a source is refused for, and the program that it is accepted as.
+#![tactic(auto)]
+
+mod laws;
+
+pub use laws::accepted_laws;
