@@ -212,15 +212,12 @@ module _ (decls : List (Decl ℕ)) where
   abbrev pub function_faults : FunctionDecl ℕ → Faults
   function_faults f = local_name_faults f.name.text f.sections ++ routine_faults (function_scope decls names f) of_routine f.line f.name.text f.result f.sections f.body
 
-  abbrev pub is_temporary : DeclaredVariable → Bool
-  is_temporary v = is_of_body v
-
   -- a program is a step of containment from what its variables hold
   abbrev pub program_limits : Scope → ProgramDecl ℕ → Faults
   program_limits s p =
       let ws = sections_written p.sections in
       too_many_parameters p.line (length (filter is_parameter_written ws))
-      ++ too_many_locals p.line (all_values s (filter is_temporary s.locals))
+      ++ too_many_locals p.line (all_values s (filter is_of_body s.locals))
       ++ flat_map (λ w. too_deep s (declarations decls) 63 p.line w.item.kind) (filter is_kept_written ws)
       ++ flat_map (λ w. item_too_deep s w.item) (filter is_body_written ws)
 

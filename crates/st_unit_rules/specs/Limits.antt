@@ -1,5 +1,5 @@
 -- E16: the limits of what a unit declares: counts, depths and values.
-use Rattle.std.specs.Prelude.{ℕ, zero, suc, ◌+◌, ◌*◌, nat_eq, nat_lt, nat_le, ℤ, pos, ◌-ℤ◌, Bool, true, false, not, ◌&&◌, ◌||◌, if◌then◌else◌, List, [], ◌∷◌, ◌++◌, map, flat_map, filter, length, Option, Some, None}
+use Rattle.std.specs.Prelude.{ℕ, zero, suc, ◌+◌, ◌*◌, nat_eq, nat_lt, nat_le, ◌-ℤ◌, Bool, true, false, not, ◌&&◌, ◌||◌, if◌then◌else◌, List, [], ◌∷◌, ◌++◌, map, flat_map, filter, length, Option, Some, None}
 use Rattle.std.specs.List.{list_any}
 use Rattle.std.specs.Option.{is_none}
 use Rattle.plc_text.specs.declared.code.Code.TheVariants.{E16}
@@ -18,6 +18,7 @@ use Rattle.st_rules.specs.Faults.{Faults, when}
 use Rattle.st_rules.specs.Scope.{Scope, is_of_instance, parts_of, field_list, variables_of}
 use Rattle.declared_names.specs.WrittenTypes.{type_written, has_too_many_dimensions}
 use Rattle.declared_names.specs.Declarations.{Declaration}
+use Rattle.st_unit_rules.specs.Worth.{count_to}
 use Rattle.st_unit_rules.specs.Cycles.{element_names, type_place, leads_to_cycle, lies_on_cycle}
 
 -- ---- counts over the unit: the declaration that passes a limit is bad
@@ -133,17 +134,13 @@ module _ (s : Scope) where
 
   -- ---- counted values
 
-  abbrev pub elements : ℤ → ℕ
-  elements (pos n) = suc n
-  elements _ = 0
-
   abbrev pub sum_of : List ℕ → ℕ
   sum_of [] = 0
   sum_of (n ∷ ns) = n + sum_of ns
 
   -- elementary values, enumerations, references and interface values, and each instance as one more; a structure is its fields
   abbrev pub level_values : (StType → ℕ) → StType-F StType → ℕ
-  level_values f (StType-F.Array low high of) = elements (high -ℤ low) * f of
+  level_values f (StType-F.Array low high of) = count_to (high -ℤ low) * f of
   level_values f (StType-F.Structure n) = sum_of (map f (field_kinds n))
   level_values f (StType-F.Instance c) = suc (sum_of (map f (variable_kinds c)))
   level_values f t = 1

@@ -186,9 +186,9 @@ module _ (s : Scope) where
 
   -- ---- an item
 
-  abbrev pub given_faults : Option StType → Option (Initial ℕ) → Faults
-  given_faults t None = []
-  given_faults t (Some i) = initial_faults s t i
+  abbrev pub initial_if_given : Option StType → Option (Initial ℕ) → Faults
+  initial_if_given t None = []
+  initial_if_given t (Some i) = initial_faults s t i
 
   -- the rules that the names of an item share
   unfoldable pub item_faults : Home → Section ℕ → Item ℕ → Faults
@@ -202,7 +202,7 @@ module _ (s : Scope) where
       ++ (if declares_constants section then bad_constant line t i else [])
       ++ address_faults line (may_have_address h section.sort && not (declares_constants section)) t item.address
       ++ (if is_external section.sort then external_faults item else [])
-      ++ given_faults t i
+      ++ initial_if_given t i
 
   -- ---- sections
 

@@ -61,6 +61,7 @@ abbrev pub given_for : List ℕ → Option (Initial ℕ) → Option (Initial ℕ
 given_for name (Some (Fields l fs)) = given_named name fs
 given_for name _ = None
 
+-- how many indices there are from one to another, by their difference
 abbrev pub count_to : ℤ → ℕ
 count_to (pos n) = suc n
 count_to _ = 0
