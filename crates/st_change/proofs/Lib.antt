@@ -6,3 +6,4 @@ pub mod Carried
 pub mod Members
 pub mod Settled
 pub mod Stores
+pub mod Same

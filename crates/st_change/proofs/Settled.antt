@@ -22,10 +22,10 @@ use Rattle.st_change.proofs.Paths.{ways_steps, part_distinct}
 
 -- ---- names are themselves
 
-same_self : (n : List ℕ) → same n n ≡ true
+pub same_self : (n : List ℕ) → same n n ≡ true
 same_self n = eq-same n n refl
 
-names_self : (ns : List (List ℕ)) → same_names ns ns ≡ true
+pub names_self : (ns : List (List ℕ)) → same_names ns ns ≡ true
 names_self [] = refl
 names_self (n ∷ ns) = ap (λ b. b && same_names ns ns) (same_self n) ∙ names_self ns
 

@@ -8,3 +8,4 @@ pub mod OneThread
 pub mod Laws
 pub mod CarryLaws
 pub mod StoreLaws
+pub mod SameLaws

@@ -4,5 +4,5 @@
 mod laws;
 mod one_thread;
 
-pub use laws::{carry_laws, path_laws, store_laws};
-pub use one_thread::{Judge, one_answer, plays_keep};
+pub use laws::{carry_laws, path_laws, same_laws, store_laws};
+pub use one_thread::{Judge, one_answer, plays_keep, refusals_leave};

@@ -5,6 +5,7 @@ ghost use Rattle.plc_text.specs.declared.refusal.Refusal.{Refusal};
 ghost use Rattle.st_values.specs.Program.{Program};
 ghost use Rattle.st_change.specs.Laws.{Judges, OneAnswer};
 ghost use Rattle.st_change.specs.StoreLaws.{Promises, PlaysKeep};
+ghost use Rattle.st_change.specs.SameLaws.{RefusalsLeave};
 
 /// What judges program texts.
 pub trait Judge {
@@ -26,4 +27,9 @@ pub fn one_answer<J: Judge>()
 /// Where all that is accepted keeps what the checker promises, a play on a good store leaves a good one.
 pub fn plays_keep<J: Judge>()
     ensures { Promises J.accepts → (sources : List (List ℕ)) → PlaysKeep J.accepts J.refuses sources }
+{}
+
+/// A change that is refused leaves version, program and store.
+pub fn refusals_leave<J: Judge>()
+    ensures { (sources : List (List ℕ)) → RefusalsLeave J.accepts J.refuses sources }
 {}
