@@ -12,7 +12,8 @@ use Rattle.st_tree.specs.Initial.{Initial, Part, One, Repeated, Parts, part_then
 use Rattle.st_tree.specs.Number.{number_of}
 use Rattle.st_rules.proofs.ListLaws.{drop-at, drop-end, take-end}
 use Rattle.st_values.specs.Initial.{given_for, listed}
-use Rattle.st_initial.specs.Private.Given.{part_gives, inits_of}
+use Rattle.st_initial.specs.Given.{inits_of}
+use Rattle.st_initial.specs.Private.Given.{part_gives}
 
 -- ---- the field of a name
 

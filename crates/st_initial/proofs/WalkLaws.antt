@@ -25,9 +25,10 @@ use Rattle.st_initial.specs.declared.members.Members as code
 use Rattle.st_initial.specs.declared.variables.Variable as held
 use Rattle.st_initial.specs.RegionNumbers.{further, numbers_in, numbers_of_region, initial_numbers}
 use Rattle.st_initial.specs.Variables.{variable_of, variables_of, fields_at}
-use Rattle.st_initial.specs.Private.Given.{inits_of}
+use Rattle.st_initial.specs.Given.{inits_of}
 use Rattle.st_initial.proofs.NumberLaws.{types_agree}
-use Rattle.st_initial.specs.Private.Numbers.{Numbers, variable_numbers, element_numbers, level_numbers, simple_numbers, type_numbers, items_at, list_at, Holds}
+use Rattle.st_initial.specs.Private.Numbers.{Numbers, variable_numbers, element_numbers, level_numbers, simple_numbers, type_numbers}
+use Rattle.st_initial.specs.Members.{items_at, list_at, Holds}
 
 -- what an answer that is no error says
 pub then_ok : {T E A B : Type 0} (r : Result T E) → OnOk r A → (A → B) → OnOk r B
@@ -107,6 +108,17 @@ module _ (m : code.Members) (n : ℕ) (q : Path) (low : ℤ) (t : StType) (is : 
       sym (append-nil out) ∙ ap (λ j. out ++ element_numbers (type_numbers p n) q low t (inits_of is) k j) (sym e) ∙ left.by p h
 
 -- ---- variables
+
+-- what is given to a variable, else its own
+pub given_some : (found given : Option (Bor (Init Note))) (i : Bor (Init Note)) (a b : Option (Initial Note)) → found ≡ Some i → given ≡ Some i → given_by found ≡ a → given_by given ≡ (a or_else b)
+given_some found given i a b e f g =
+    let is : a ≡ Some (initial_of i.now) = sym g ∙ ap given_by e in
+    ap given_by f ∙ sym (ap (λ o. o or_else b) is)
+
+pub given_none : (found given own : Option (Bor (Init Note))) (a : Option (Initial Note)) → found ≡ None → given ≡ own → given_by found ≡ a → given_by given ≡ (a or_else given_by own)
+given_none found given own a e f g =
+    let is : a ≡ None = sym g ∙ ap given_by e in
+    ap given_by f ∙ sym (ap (λ o. o or_else given_by own) is)
 
 pub record VariablesLeft (m : code.Members) (n : ℕ) (q : Path) (vs : List held.Variable) (gs : FieldInits Note) (k : ℕ) (out before : List (Path × ℤ)) : Type 0 where
   pub by : (p : Program) → Holds p m → (out ++ variable_numbers (type_numbers p n) q k (variables_of (drop k vs)) gs) ≡ (before ++ variable_numbers (type_numbers p n) q 0 (variables_of vs) gs)

@@ -1,3 +1,5 @@
 pub mod Variables
+pub mod Members
+pub mod Given
 pub mod RegionNumbers
 pub mod Private

@@ -4,7 +4,8 @@ ghost use Rattle.std.specs.Prelude.{◌≡◌, ◌≤◌, ◌++◌, take, length
 ghost use Rattle.st_tree.specs.Expression.{expression_of};
 ghost use Rattle.st_tree.specs.Initial.{initial_of, part_of, parts_of, fields_of};
 ghost use Rattle.st_values.specs.Initial as words;
-ghost use Rattle.st_initial.specs.Private.Given.{inits_of, part_gives};
+ghost use Rattle.st_initial.specs.Given.{inits_of};
+ghost use Rattle.st_initial.specs.Private.Given.{part_gives};
 
 use plc_text::{NoMemory, Text};
 use st_tree::{Expr, FieldInit, Init, Note, Part, Target, number_of};

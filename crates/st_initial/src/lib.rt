@@ -9,5 +9,7 @@ mod region_numbers;
 mod tests;
 mod variables;
 
+pub use given::{elements_given, fields_given, given_for, number_given};
+pub use members::{Members, members_of};
 pub use region_numbers::initial;
 pub use variables::{Variable, class_variables, structure_fields};

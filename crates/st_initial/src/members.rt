@@ -1,10 +1,10 @@
 //! The variables of all structures, classes and programs of a program, each list found once.
 
-ghost use Rattle.std.specs.Prelude.{◌≡◌, ◌+◌, ℕ, length, IfOk, IfSome};
+ghost use Rattle.std.specs.Prelude.{◌≡◌, ◌≤◌, ◌+◌, ℕ, length, IfOk, IfSome};
 ghost use Rattle.st_values.specs.Program.{class_variables};
 ghost use Rattle.st_values.specs.View.{program_of};
 ghost use Rattle.st_initial.specs.Variables.{fields_at};
-ghost use Rattle.st_initial.specs.Private.Numbers.{Holds, list_at};
+ghost use Rattle.st_initial.specs.Members.{Holds, list_at};
 
 use crate::variables::{self, Variable};
 use plc_text::{Items, NoMemory};
@@ -20,7 +20,8 @@ pub struct Members<'p> {
 
 #[tactic(auto, using(crate::proofs::TableLaws::no_lists, crate::proofs::TableLaws::one_list, crate::proofs::TableLaws::all_lists, crate::proofs::TableLaws::no_fields_past))]
 fn structures(alloc: Global, program: &Program) -> Result<Items<Items<Variable<'_>>>, NoMemory>
-    ensures { IfOk result (λ all. (n : ℕ) → list_at all n ≡ fields_at (program_of program.now) n) }
+    ensures each { IfOk result (λ all. (n : ℕ) → list_at all n ≡ fields_at (program_of program.now) n) }
+    ensures all { IfOk result (λ all. length (program_of program.now).types ≤ length all) }
 {
     let mut all = Items::new(alloc);
     for n in 0..program.types.len() {
@@ -39,7 +40,8 @@ fn count(program: &Program) -> Option<usize>
 
 #[tactic(auto, using(crate::proofs::TableLaws::no_lists, crate::proofs::TableLaws::one_list))]
 fn classes(alloc: Global, program: &Program) -> Result<Items<Items<Variable<'_>>>, NoMemory>
-    ensures { IfOk result (λ all. (c : ℕ) → list_at all c ≡ class_variables (program_of program.now) c) }
+    ensures each { IfOk result (λ all. (c : ℕ) → list_at all c ≡ class_variables (program_of program.now) c) }
+    ensures all { IfOk result (λ all. length (program_of program.now).classes ≤ length all) }
 {
     let Some(end) = count(program) else {
         return Err(NoMemory);

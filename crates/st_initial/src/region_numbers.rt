@@ -8,7 +8,8 @@ ghost use Rattle.st_values.specs.Shape.{Shape, extent, region_shape};
 ghost use Rattle.st_values.specs.View.{program_of};
 ghost use Rattle.st_initial.specs.RegionNumbers as plain;
 ghost use Rattle.st_initial.specs.Variables.{variables_of};
-ghost use Rattle.st_initial.specs.Private.Given.{inits_of};
+ghost use Rattle.st_initial.specs.Given.{inits_of};
+ghost use Rattle.st_initial.specs.Members as tables;
 ghost use Rattle.st_initial.specs.Private.Numbers as numbers;
 
 use crate::given::{elements_given, fields_given, given_for, number_given};
@@ -98,7 +99,7 @@ fn push_type(
     path: &Path,
     out: &mut Vec<(Path, i128)>,
 ) -> Result<(), NoMemory>
-    ensures { OnOk result ((p : PlainProgram) → numbers.Holds p members.now → out.new.items ≡ out.old.items ++ numbers.type_numbers p depth path.now kind.now (option_map (λ i. initial_of i.now) given.entry)) }
+    ensures { OnOk result ((p : PlainProgram) → tables.Holds p members.now → out.new.items ≡ out.old.items ++ numbers.type_numbers p depth path.now kind.now (option_map (λ i. initial_of i.now) given.entry)) }
 {
     match kind {
         StType::Elementary(_) => push_number(alloc, given, path, out),
@@ -167,7 +168,7 @@ fn push_array(
     path: &Path,
     out: &mut Vec<(Path, i128)>,
 ) -> Result<(), NoMemory>
-    ensures { OnOk result ((p : PlainProgram) → numbers.Holds p members.now → out.new.items ≡ out.old.items ++ numbers.element_numbers (numbers.type_numbers p depth) path.now low.now of.now (take (extent low.now high.now) (words.list_given (option_map (λ i. initial_of i.now) given.entry))) 0 (extent low.now high.now)) }
+    ensures { OnOk result ((p : PlainProgram) → tables.Holds p members.now → out.new.items ≡ out.old.items ++ numbers.element_numbers (numbers.type_numbers p depth) path.now low.now of.now (take (extent low.now high.now) (words.list_given (option_map (λ i. initial_of i.now) given.entry))) 0 (extent low.now high.now)) }
 {
     let Some(end) = count(*low, *high) else {
         return Err(NoMemory);
@@ -192,7 +193,7 @@ fn push_variables(
     path: &Path,
     out: &mut Vec<(Path, i128)>,
 ) -> Result<(), NoMemory>
-    ensures { OnOk result ((p : PlainProgram) → numbers.Holds p members.now → out.new.items ≡ out.old.items ++ numbers.variable_numbers (numbers.type_numbers p depth) path.now 0 (variables_of (numbers.items_at (option_map (λ vs. vs.now) variables.entry))) (fields_of inits.now)) }
+    ensures { OnOk result ((p : PlainProgram) → tables.Holds p members.now → out.new.items ≡ out.old.items ++ numbers.variable_numbers (numbers.type_numbers p depth) path.now 0 (variables_of (tables.items_at (option_map (λ vs. vs.now) variables.entry))) (fields_of inits.now)) }
 {
     let Some(variables) = variables else {
         return Ok(());

@@ -11,10 +11,8 @@ use Rattle.st_values.specs.Initial.{number_given, list_given, fields_given, give
 use Rattle.st_values.specs.Program.{Variable, Program, class_variables}
 use Rattle.st_values.specs.Shape.{extent}
 use Rattle.st_values.specs.Value.{Path}
-use Rattle.st_initial.specs.declared.members.Members as code
-use Rattle.st_initial.specs.declared.variables.Variable as held
 use Rattle.st_initial.specs.RegionNumbers.{further}
-use Rattle.st_initial.specs.Variables.{variables_of, fields_at}
+use Rattle.st_initial.specs.Variables.{fields_at}
 
 -- what gives the numbers of a place of a type
 abbrev pub Numbers : Type 0
@@ -48,20 +46,6 @@ simple_numbers q o i = []
 abbrev pub type_numbers : Program → ℕ → Numbers
 type_numbers p zero q t i = simple_numbers q (out-StType t) i
 type_numbers p (suc n) q t i = level_numbers p (type_numbers p n) q (out-StType t) i
-
--- ---- the code's tables
-
-abbrev pub items_at : Option (List held.Variable) → List held.Variable
-items_at None = []
-items_at (Some vs) = vs
-
-abbrev pub list_at : List (List held.Variable) → ℕ → List Variable
-list_at xs n = variables_of (items_at (slice_get xs n))
-
--- the tables hold the variables of each structure, class and program
-pub record Holds (p : Program) (m : code.Members) : Type 0 where
-  pub structures : (n : ℕ) → list_at m.structures n ≡ fields_at p n
-  pub classes : (c : ℕ) → list_at m.classes c ≡ class_variables p c
 
 abbrev pub given_of : Option (Init Note) → Option (Initial Note)
 given_of i = option_map initial_of i

@@ -1,7 +1,7 @@
 use Rattle.std.proofs.Common.{◌≡◌, ◌≤◌, ◌++◌, length, take, drop}
 use Rattle.st_tree.specs.Initial.{parts_of}
 use Rattle.st_values.specs.Initial.{listed}
-use Rattle.st_initial.specs.Private.Given.{inits_of}
+use Rattle.st_initial.specs.Given.{inits_of}
 use Rattle.st_initial.proofs.given.elements_given.Given as goal
 
 -- what was added, and what the rest gives, is the whole

@@ -1,7 +1,7 @@
 use Rattle.std.proofs.Common.{ℕ, ◌≡◌, ◌≤◌, ◌++◌, length}
 use Rattle.std.specs.Prelude.{replicate}
 use Rattle.st_tree.specs.Initial.{initial_of}
-use Rattle.st_initial.specs.Private.Given.{inits_of}
+use Rattle.st_initial.specs.Given.{inits_of}
 use Rattle.st_initial.proofs.given.push_times.Given as goal
 
 -- what was added, and what is left, is the whole

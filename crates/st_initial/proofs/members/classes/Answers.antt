@@ -1,10 +1,17 @@
 use Rattle.std.proofs.Common.{arith}
 use Rattle.st_values.specs.Program.{class_variables}
 use Rattle.st_values.specs.View.{program_of}
-use Rattle.st_initial.proofs.TableLaws.{all_lists, no_variables_past}
+use Rattle.st_initial.proofs.TableLaws.{all_lists, no_variables_past, count_classes}
 use Rattle.st_initial.proofs.members.classes.Goals as goal
 
-pub returns : goal.returns
-returns c =
+pub returns-clause-each : goal.returns-clause-each
+returns-clause-each c =
     all_lists c.loop-c.all c.loop-c.c (class_variables (program_of c.args.program.now)) c.loop-c.invariant
     (λ k h. let e = c.in-Some.ensures in let t = c.loop-c-test.false in no_variables_past c.args.program.now k (omega (arith, h, e, t)))
+
+pub returns-clause-all : goal.returns-clause-all
+returns-clause-all c =
+    let e = c.in-Some.ensures in
+    let t = c.loop-c-test.false in
+    let l = c.loop-c.invariant.long in
+    omega (arith, e, t, l, count_classes c.args.program.now)

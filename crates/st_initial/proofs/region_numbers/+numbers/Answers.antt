@@ -4,9 +4,11 @@ use Rattle.st_tree.specs.Initial.{fields_of}
 use Rattle.st_values.specs.Initial.{list_given}
 use Rattle.st_values.specs.Shape.{extent}
 use Rattle.st_initial.specs.Variables.{variables_of}
-use Rattle.st_initial.specs.Private.Numbers.{variable_numbers, element_numbers, type_numbers, items_at, list_at}
-use Rattle.st_initial.proofs.WalkLaws.{then_ok, given_by, positive, elementary_numbers, enumeration_numbers, array_numbers, structure_numbers, instance_numbers, elements_first, elements_step, elements_done, variables_first, variables_step, variables_done}
+use Rattle.st_initial.specs.Private.Numbers.{variable_numbers, element_numbers, type_numbers}
+use Rattle.st_initial.specs.Members.{items_at, list_at}
+use Rattle.st_initial.proofs.WalkLaws.{then_ok, given_by, positive, elementary_numbers, enumeration_numbers, array_numbers, structure_numbers, instance_numbers, elements_step, given_some, given_none, variables_step}
 use Rattle.st_initial.proofs.region_numbers.+numbers.Goals as goal
+use Rattle.st_initial.proofs.region_numbers.+numbers.Goals.{push_variables-in-Some-given_for, push_variables-in-None}
 
 pub push_type-returns-in-Elementary : goal.push_type-returns-in-Elementary
 push_type-returns-in-Elementary t c =
@@ -48,3 +50,13 @@ pub push_array-loop-k-preserved : goal.push_array-loop-k-preserved
 push_array-loop-k-preserved t c =
     elements_step c.args.members.now c.args.depth c.args.path.now c.args.low.now c.args.of.now c.in_ok-givens.givens.items c.in-Some.end c.loop-k.k c.loop-k.out.items c.push_type.new.out.items c.args.out.now.items c.in_ok-place.place c.given_at-given.result
     c.loop-k-test.true c.loop-k.invariant c.in_ok-place.ensures (c.given_at-given.ensures ∙ ap (λ is. slice_get is c.loop-k.k) c.deref.ensures.value) (λ p h. c.in_ok-push_type.ensures p h)
+
+pub push_variables-loop-k-preserved : goal.push_variables-loop-k-preserved
+push_variables-loop-k-preserved t c =
+    variables_step c.args.members.now c.args.depth c.args.path.now c.as_slice-variable-items.result.now (fields_of c.args.inits.now) c.loop-k.k c.variable-item.result c.loop-k.out.items c.push_type.new.out.items c.args.out.now.items c.in_ok-place.place
+    (given_by c.match-given_for.given) c.loop-k-test.true c.variable-item.is c.loop-k.invariant c.in_ok-place.ensures
+    (elim c.match-given_for.branch [
+      | push_variables-in-Some-given_for w ↦ given_some c.given_for.result c.match-given_for.given w.in-Some-given_for.init _ _ w.in-Some-given_for.is w.given-is c.given_for.ensures
+      | push_variables-in-None w ↦ given_none c.given_for.result c.match-given_for.given _ _ w.in-None.is w.given-is c.given_for.ensures
+    ])
+    (λ p h. c.in_ok-push_type.ensures p h)

@@ -1,0 +1,9 @@
+pub mod Moves
+pub mod Writes
+pub mod Leaves
+pub mod Apart
+pub mod Store
+pub mod Once
+pub mod Image
+pub mod Examples
+pub mod Suits

@@ -1,0 +1,26 @@
+//! What follows from the definitions of places and of the bytes that spell values.
+
+ghost use Rattle.std.specs.Prelude.{ℕ, Bool, List, Option};
+ghost use Rattle.st_values.specs.Shape.{Shape};
+ghost use Rattle.st_values.specs.Value.{Store};
+ghost use Rattle.store_bytes.specs.PlaceLaws.{PlaceLaws, KeptOnce};
+ghost use Rattle.store_bytes.specs.StoreLaws.{StoreLaws, SpellingLaws};
+ghost use Rattle.store_bytes.specs.SuitsLaws.{SuitsLaws};
+
+/// Parts lie within the whole, share no byte where they are not within each other, and one way leads to what begins at a
+/// place.
+pub fn place_laws()
+    ensures places { PlaceLaws }
+    ensures kept_once { KeptOnce }
+{}
+
+/// Bytes spell at most one value, and a value that suits its shape has one spelling.
+pub fn spelling_laws()
+    ensures spelling { (regions : ℕ → Option Shape) → SpellingLaws regions }
+    ensures suits { (regions : ℕ → Option Shape) → SuitsLaws regions }
+{}
+
+/// Reads, writes and copies of bytes at the places of paths are reads, writes and assignments in the store.
+pub fn store_laws()
+    ensures { (regions : ℕ → Option Shape) (is_held : ℕ → Bool) (images : List (Option (List ℕ))) (store : Store) → StoreLaws regions is_held images store }
+{}
