@@ -67,7 +67,7 @@ swapped true false = refl
 swapped false true = refl
 swapped false false = refl
 
-same_even : (a b : List ℕ) → same a b ≡ same b a
+pub same_even : (a b : List ℕ) → same a b ≡ same b a
 same_even a b = same-tests (same a b) (same b a) (λ h. (bytes_eq-Decides b a).1 (sym ((bytes_eq-Decides a b).0 h))) (λ h. (bytes_eq-Decides a b).1 (sym ((bytes_eq-Decides b a).0 h)))
 
 pub held_next : (old new names : List (List ℕ)) (k n : List ℕ) → k ≡ n → ((q : List ℕ) → list_any (same q) new ≡ cond (same k q) true (list_any (same q) old)) → Holds old names → Holds new (names ++ n ∷ [])
