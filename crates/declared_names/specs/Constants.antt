@@ -115,6 +115,12 @@ abbrev pub converted_value : Callee → Outcome → Outcome
 converted_value (a_conversion a b) x = outcome_map (converted b) x
 converted_value _ x = cannot_be_told
 
+-- a constant whose value is told, or an enumerator
+abbrev pub is_told : Target → Bool
+is_told (target.Constant z) = true
+is_told (target.Enumerator k) = true
+is_told _ = false
+
 abbrev pub if_none : Faults → Outcome → Option ℤ
 if_none [] (comes_to z) = Some z
 if_none _ _ = None
@@ -203,6 +209,31 @@ module _ (s : Scope) where
   unfoldable pub constant_faults : Asked → Expression ℕ → Faults
   constant_faults asked e = expression_faults s asked e ++ no_constant_part e ++ zero_divisor (constant_value asked e)
 
-  -- the value where no rule is broken
+  -- ---- what is told
+
+  -- Every name in the expression is told, also behind an AND_THEN or an OR_ELSE that skips it. What is not told yet breaks no rule, but may
+  -- break one when it is told: so with less asked here, a value could be told and then be taken back, for ever on a cycle.
+  abbrev mutual
+    pub names_are_told : Expression ℕ → Bool
+    names_are_told (Place l r ss) = is_told (whole_target s r ss)
+    names_are_told (Enumerator l t k name) = is_told (note_of_value s (type_qualifier s t) name)
+    names_are_told (Call l r ss xs) = arguments_are_told xs
+    names_are_told (Paren l e) = names_are_told e
+    names_are_told (Not l e) = names_are_told e
+    names_are_told (Negate l e) = names_are_told e
+    names_are_told (Chain l e ts) = names_are_told e && operands_are_told ts
+    names_are_told _ = true
+
+    pub operands_are_told : Tails ℕ → Bool
+    operands_are_told no_tails = true
+    operands_are_told (tail_then l o e ts) = names_are_told e && operands_are_told ts
+
+    pub arguments_are_told : Arguments ℕ → Bool
+    arguments_are_told no_arguments = true
+    arguments_are_told (argument_then (Positional e) xs) = names_are_told e && arguments_are_told xs
+    arguments_are_told (argument_then (Input l name e) xs) = names_are_told e && arguments_are_told xs
+    arguments_are_told (argument_then (Output l name k r ss) xs) = is_told (whole_target s r ss) && arguments_are_told xs
+
+  -- the value where every name is told and no rule is broken
   unfoldable pub told_value : Asked → Expression ℕ → Option ℤ
-  told_value asked e = if_none (constant_faults asked e) (constant_value asked e)
+  told_value asked e = if names_are_told e then if_none (constant_faults asked e) (constant_value asked e) else None

@@ -1,5 +1,6 @@
 -- What a unit says of its names. Types need constants for bounds, and constants need types and other constants: what can be told is told
--- in so many steps, each from what the step before tells. What lies on a cycle, or behind one, is never told.
+-- in so many steps, each from what the step before tells. Every step has all names, and at first nothing is told of them, so that a name
+-- means the same at each step. What lies on a cycle, or behind one, is never told.
 use Rattle.std.specs.Prelude.{ℕ, zero, suc, ◌+◌, Bool, true, false, if◌then◌else◌, List, [], ◌∷◌, ◌++◌, map, flat_map, filter, length, drop, Option, Some, None, slice_get}
 use Rattle.st_types.specs.declared.st_type.StType.{StType}
 use Rattle.st_types.specs.declared.st_type.StType.TheVariants as type
@@ -50,6 +51,41 @@ forgotten_target constant t = if constant then target.Nothing else t
 -- a variable of which the name is known alone
 abbrev pub forgotten : DeclaredVariable → DeclaredVariable
 forgotten v = record v { kind = None; target = forgotten_target v.constant v.target }
+
+abbrev pub forgotten_outcome : ResultType → ResultType
+forgotten_outcome outcome.Nothing = outcome.Nothing
+forgotten_outcome (outcome.Written t) = outcome.Written None
+
+abbrev pub forgotten_routine : DeclaredRoutine → DeclaredRoutine
+forgotten_routine r = record r { outcome = forgotten_outcome r.outcome; parameters = map forgotten r.parameters }
+
+abbrev pub forgotten_type : DeclaredType → DeclaredType
+forgotten_type t = record t { kind = None }
+
+abbrev pub forgotten_field : DeclaredField → DeclaredField
+forgotten_field f = record f { kind = None }
+
+abbrev pub forgotten_parts : TypeParts → TypeParts
+forgotten_parts parts.Nothing = parts.Nothing
+forgotten_parts (parts.Values names) = parts.Values names
+forgotten_parts (parts.Fields fields) = parts.Fields (map forgotten_field fields)
+
+abbrev pub forgotten_global : DeclaredGlobal → DeclaredGlobal
+forgotten_global (global.Variable v) = global.Variable (forgotten v)
+forgotten_global (global.Function k r) = global.Function k (forgotten_routine r)
+
+abbrev pub forgotten_class : DeclaredClass → DeclaredClass
+forgotten_class c = record c { variables = map forgotten c.variables; methods = map forgotten_routine c.methods }
+
+-- all names, of which nothing is told
+abbrev pub forgotten_names : DeclaredNames → DeclaredNames
+forgotten_names n = record {
+  types = map forgotten_type n.types;
+  parts = map forgotten_parts n.parts;
+  classes = map forgotten_class n.classes;
+  interfaces = map (λ ms. map forgotten_routine ms) n.interfaces;
+  globals = map forgotten_global n.globals;
+}
 
 abbrev pub constants_written : List (Section ℕ) → List Written
 constants_written ss = filter (λ w. w.constant) (sections_written ss)
@@ -202,7 +238,7 @@ module _ (decls : List (Decl ℕ)) where
 
   -- in so many steps
   abbrev pub names_told : ℕ → DeclaredNames
-  names_told zero = no_names
+  names_told zero = forgotten_names (names_from no_names)
   names_told (suc k) = names_from (names_told k)
 
   -- a step more than what may need another: entries of TYPE and constants

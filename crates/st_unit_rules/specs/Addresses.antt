@@ -1,5 +1,5 @@
 -- Bits that regions share at output and memory addresses, with the regions in the order of the text (IEC 61131-3:2013, 6.5.5).
-use Rattle.std.specs.Prelude.{ℕ, ◌+◌, ◌*◌, nat_lt, Bool, true, false, not, ◌&&◌, if◌then◌else◌, List, [], ◌∷◌, ◌++◌, flat_map, Option, Some, None}
+use Rattle.std.specs.Prelude.{ℕ, ◌+◌, ◌*◌, nat_lt, Bool, true, false, not, ◌&&◌, ◌||◌, if◌then◌else◌, List, [], ◌∷◌, ◌++◌, flat_map, Option, Some, None}
 use Rattle.std.specs.List.{list_any}
 use Rattle.plc_text.specs.declared.code.Code.TheVariants.{E14}
 use Rattle.st_tree.specs.Address.{area_of, width_of, index_of, bit_of}
@@ -9,7 +9,7 @@ use Rattle.st_tree.specs.declared.declaration.SectionSort.{SectionSort}
 use Rattle.st_tree.specs.declared.declaration.SectionSort.TheVariants as sort
 use Rattle.st_rules.specs.Faults.{Faults, when}
 use Rattle.declared_names.specs.Variables.{Written}
-use Rattle.st_unit_rules.specs.VariableRules.{width_bits, width_bytes}
+use Rattle.st_unit_rules.specs.VariableRules.{width_bits, width_bytes, has_bit_above_seven, passes_the_image}
 
 -- bits of one area: the first, and how many
 pub record Bits : Type 0 where
@@ -29,9 +29,10 @@ same_area _ _ = false
 abbrev pub share : Bits → Bits → Bool
 share a b = same_area a.area b.area && nat_lt a.first (b.first + b.count) && nat_lt b.first (a.first + a.count)
 
+-- an address past its image has none
 abbrev pub bits_of : Option (List ℕ) → List Bits
 bits_of None = []
-bits_of (Some text) = bits_at text ∷ []
+bits_of (Some text) = if has_bit_above_seven text || passes_the_image text then [] else bits_at text ∷ []
 
 abbrev pub may_be_located : SectionSort → Bool
 may_be_located sort.Var = true

@@ -8,7 +8,9 @@ use Rattle.st_types.specs.declared.st_type.StType.{StType}
 use Rattle.st_types.specs.declared.st_type.StType.TheVariants as type
 use Rattle.st_types.specs.declared.st_type.StType.TheOpen.{StType-F}
 use Rattle.st_types.specs.declared.st_type.StType.TheFolds.{fold-StType}
-use Rattle.st_tree.specs.Address.{width_of, index_of, bit_of}
+use Rattle.st_tree.specs.Address.{area_of, width_of, index_of, bit_of}
+use Rattle.st_tree.specs.declared.address.Area.{Area}
+use Rattle.st_tree.specs.declared.address.Area.TheVariants as area
 use Rattle.st_tree.specs.declared.address.Width.{Width}
 use Rattle.st_tree.specs.declared.address.Width.TheVariants as width
 use Rattle.st_tree.specs.declared.declaration.ClassDecl.{ClassDecl}
@@ -149,12 +151,22 @@ is_elementary_of_width n (Some _) = false
 abbrev pub address_of_another_width : ℕ → List ℕ → Option StType → Faults
 address_of_another_width line text t = when (not (is_elementary_of_width (width_bits (width_of text)) t)) E14 line
 
-abbrev pub bit_above_seven : ℕ → List ℕ → Faults
-bit_above_seven line text = when (nat_lt 7 (bit_of text)) E14 line
+abbrev pub has_bit_above_seven : List ℕ → Bool
+has_bit_above_seven text = nat_lt 7 (bit_of text)
 
--- an image has 256 bytes
+abbrev pub bit_above_seven : ℕ → List ℕ → Faults
+bit_above_seven line text = when (has_bit_above_seven text) E14 line
+
+-- so many bytes have addresses
+abbrev pub image_bytes : Area → ℕ
+image_bytes area.Memory = 4_096
+image_bytes _ = 256
+
+abbrev pub passes_the_image : List ℕ → Bool
+passes_the_image text = nat_lt (image_bytes (area_of text)) (index_of text * width_bytes (width_of text) + width_bytes (width_of text))
+
 abbrev pub address_past_the_image : ℕ → List ℕ → Faults
-address_past_the_image line text = when (nat_lt 256 (index_of text * width_bytes (width_of text) + width_bytes (width_of text))) E14 line
+address_past_the_image line text = when (passes_the_image text) E14 line
 
 abbrev pub address_faults : ℕ → Bool → Option StType → Option (List ℕ) → Faults
 address_faults line may t None = []

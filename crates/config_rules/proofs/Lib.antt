@@ -1,0 +1,2 @@
+pub mod ConfigLaws
+pub mod SettingLaws

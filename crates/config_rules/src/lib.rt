@@ -1,0 +1,9 @@
+//! The rules of tasks and program instances in a configuration (IEC 61131-3:2013, 6.8).
+#![tactic(auto)]
+
+mod settings;
+mod tasks;
+#[cfg(test)]
+mod tests;
+
+pub use tasks::tasks_and_instances;

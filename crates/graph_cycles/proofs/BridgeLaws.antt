@@ -1,0 +1,43 @@
+-- Ways along the edges of a graph are those that `ahead` tells.
+use Rattle.std.proofs.Common.{◌≡◌, ℕ, Bool, true, List}
+use Rattle.std.specs.Bool.{Decides}
+use Rattle.st_rules.specs.Chains.{is_among, Leads, itself, onward}
+use Rattle.graph_cycles.specs.declared.graph.Edge.{Edge}
+use Rattle.graph_cycles.specs.Graph.{HasEdge, AreEdgesOf, LiesOnCycle, LeadsToCycle}
+use Rattle.graph_cycles.specs.Private.Ways.{Way, IsTurning, EndsTurning, here, further}
+use Rattle.graph_cycles.specs.Private.Ways as ways
+
+-- a way of an edge and what leads on from there
+record Begins (ahead : ℕ → List ℕ) (i k : ℕ) : Type 0 where
+  next : ℕ
+  edge : is_among next (ahead i) ≡ true
+  rest : Leads ahead next k
+
+module _ (edges : List Edge) (ahead : ℕ → List ℕ) (told : AreEdgesOf edges ahead) where
+  begins : (i k : ℕ) → Way edges i k → Begins ahead i k
+  begins _ _ (ways.along i k e) = record { next = k; edge = (told.told i k).1 e; rest = itself k }
+  begins _ _ (ways.onward i j k e r) = let q = begins j k r in record { next = j; edge = (told.told i j).1 e; rest = onward j q.next k q.edge q.rest }
+
+  way : (i j k : ℕ) → HasEdge edges i j → Leads ahead j k → Way edges i k
+  way i _ _ e (itself j) = ways.along i j e
+  way i _ _ e (onward j m k edge r) = ways.onward i j k e (way j m k ((told.told j m).0 edge) r)
+
+  lies : (i : ℕ) → IsTurning edges i → LiesOnCycle ahead i
+  lies i t = let q = begins i i t in record { next = q.next; edge = q.edge; back = q.rest }
+
+  turns : (i : ℕ) → LiesOnCycle ahead i → IsTurning edges i
+  turns i l = way i l.next i ((told.told i l.next).0 l.edge) l.back
+
+  leads : (i : ℕ) → EndsTurning edges i → LeadsToCycle ahead i
+  leads _ (here i t) = record { turning = i; way = itself i; cycle = lies i t }
+  leads _ (further i j e r) = let q = leads j r in record { turning = q.turning; way = onward i j q.turning ((told.told i j).1 e) q.way; cycle = q.cycle }
+
+  ends_at : (i t : ℕ) → Leads ahead i t → LiesOnCycle ahead t → EndsTurning edges i
+  ends_at _ _ (itself i) l = here i (turns i l)
+  ends_at _ _ (onward i j t edge r) l = further i j ((told.told i j).0 edge) (ends_at j t r l)
+
+  pub on_cycle : (b : Bool) (i : ℕ) → Decides b (IsTurning edges i) → Decides b (LiesOnCycle ahead i)
+  on_cycle b i d = (λ h. lies i (d.0 h), λ l. d.1 (turns i l))
+
+  pub to_cycle : (b : Bool) (i : ℕ) → Decides b (EndsTurning edges i) → Decides b (LeadsToCycle ahead i)
+  to_cycle b i d = (λ h. leads i (d.0 h), λ l. d.1 (ends_at i l.turning l.way l.cycle))

@@ -1,0 +1,5 @@
+pub mod BehindLaws
+pub mod BridgeLaws
+pub mod CycleLaws
+pub mod EdgeLaws
+pub mod SearchLaws

@@ -1,0 +1,14 @@
+//! The nodes of a graph that lie on a cycle or lead to one, in time linear in the graph.
+#![tactic(auto)]
+
+mod behind;
+mod cycle;
+mod graph;
+mod hint;
+mod places;
+mod search;
+#[cfg(test)]
+mod tests;
+
+pub use cycle::{cycle_nodes, nodes_to_cycles};
+pub use graph::Edge;

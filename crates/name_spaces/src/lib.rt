@@ -1,0 +1,14 @@
+//! Names that are declared twice in their space, and words that stand twice (IEC 61131-3:2013, 6.1.2).
+#![tactic(auto)]
+
+mod held;
+mod names_in;
+#[cfg(test)]
+mod tests;
+mod twice;
+mod words;
+
+pub use held::HeldNames;
+pub use names_in::{member_names, part_names, prototype_names, section_names};
+pub use twice::{named_fault, twice_fault};
+pub use words::word_twice;

@@ -1,0 +1,10 @@
+//! Bits of output and memory addresses that are taken (IEC 61131-3:2013, 6.5.5).
+#![tactic(auto)]
+
+mod span;
+mod table;
+mod taken;
+#[cfg(test)]
+mod tests;
+
+pub use taken::TakenBits;
