@@ -1,0 +1,12 @@
+//! The state of a run over value trees: regions, open calls, ticks, and what takes a cycle's writes back.
+#![tactic(auto)]
+
+mod frames;
+mod places;
+mod state;
+mod writes;
+
+pub use frames::{local_spot, own_path, pop, push};
+pub use places::{into_part, load, path_of, value_of_spot};
+pub use state::{Frame, RunState, Slot, Spot, Stop, Undo, spend};
+pub use writes::{put, roll_back};
