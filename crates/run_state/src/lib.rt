@@ -7,6 +7,6 @@ mod state;
 mod writes;
 
 pub use frames::{local_spot, own_path, pop, push};
-pub use places::{into_part, load, path_of, value_of_spot};
-pub use state::{Frame, RunState, Slot, Spot, Stop, Undo, spend};
+pub use places::{copy_spot, into_part, load, path_of, value_of_spot};
+pub use state::{Frame, RunState, Slot, Spot, Stop, Undo, fault, spend};
 pub use writes::{put, roll_back};
