@@ -4,6 +4,8 @@
 mod frames;
 mod places;
 mod state;
+#[cfg(test)]
+mod tests;
 mod writes;
 
 pub use frames::{local_spot, own_path, pop, push};

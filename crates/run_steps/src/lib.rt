@@ -5,6 +5,8 @@ mod arithmetic;
 mod labels;
 mod operations;
 mod places;
+#[cfg(test)]
+mod tests;
 mod values;
 
 pub use labels::hold;

@@ -4,6 +4,8 @@
 mod copies;
 mod exchange;
 mod reading;
+#[cfg(test)]
+mod tests;
 mod value;
 
 pub use copies::{copy_path, copy_value};
