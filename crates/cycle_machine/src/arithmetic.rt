@@ -66,7 +66,8 @@ impl Machine {
     {
         let b = self.words.pop_number()?;
         let a = self.words.pop_number()?;
-        self.words.push(Word::Number(mul(e, narrow(e, a), narrow(e, b))));
+        self.words
+            .push(Word::Number(mul(e, narrow(e, a), narrow(e, b))));
         self.here.next += 1;
         Ok(())
     }
@@ -135,10 +136,8 @@ impl Machine {
     {
         let b = self.words.pop_number()?;
         let a = self.words.pop_number()?;
-        self.words
-            .push(Word::Number(sum_of(e, a, b)));
-        self.words
-            .push(Word::Number(truth(has_carry(e, narrow(e, a), narrow(e, b)))));
+        self.words.push(Word::Number(sum_of(e, a, b)));
+        self.words.push(Word::Number(truth(has_carry(e, narrow(e, a), narrow(e, b)))));
         self.here.next += 1;
         Ok(())
     }

@@ -36,7 +36,14 @@ impl Machine {
 
     /// Enters the routine in the slot of the instance's class.
     #[inline]
-    pub fn call_method(&mut self, code: &ValidCode, target: u32, slot: u32, n: u32, line: u32) -> Result<(), Ending>
+    pub fn call_method(
+        &mut self,
+        code: &ValidCode,
+        target: u32,
+        slot: u32,
+        n: u32,
+        line: u32,
+    ) -> Result<(), Ending>
         requires locals { HoldsLocals code.now self.old.locals.stride }
         requires tall { IsTall self.old }
         requires next { self.old.here.next + 1 < 2 ^ 32 }
@@ -56,7 +63,14 @@ impl Machine {
 
     /// Enters the routine by which the instance's class implements the method.
     #[inline]
-    pub fn call_interface(&mut self, code: &ValidCode, interface: u32, method: u32, n: u32, line: u32) -> Result<(), Ending>
+    pub fn call_interface(
+        &mut self,
+        code: &ValidCode,
+        interface: u32,
+        method: u32,
+        n: u32,
+        line: u32,
+    ) -> Result<(), Ending>
         requires locals { HoldsLocals code.now self.old.locals.stride }
         requires tall { IsTall self.old }
         requires next { self.old.here.next + 1 < 2 ^ 32 }
@@ -93,7 +107,14 @@ impl Machine {
 
     /// Enters the routine on the instance, with the n words on top, which stand above it.
     #[inline]
-    fn enter(&mut self, code: &ValidCode, routine: u32, own: Option<Address>, n: u32, line: u32) -> Result<(), Ending>
+    fn enter(
+        &mut self,
+        code: &ValidCode,
+        routine: u32,
+        own: Option<Address>,
+        n: u32,
+        line: u32,
+    ) -> Result<(), Ending>
         requires locals { HoldsLocals code.now self.old.locals.stride }
         requires tall { IsTall self.old }
         requires words { n < length self.old.words.words }

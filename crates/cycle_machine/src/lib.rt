@@ -11,8 +11,6 @@ mod flow;
 mod machine;
 mod operands;
 mod room;
-#[cfg(test)]
-mod tests;
 mod runs;
 
 pub use room::{Room, run, run_hook};

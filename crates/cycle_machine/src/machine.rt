@@ -77,7 +77,9 @@ impl Machine {
             Op::Tick => self.spend(line),
             Op::Call(routine, n) => self.call(code, routine, n, line),
             Op::CallM(target, slot, n) => self.call_method(code, target, slot, n, line),
-            Op::CallI(interface, method, n) => self.call_interface(code, interface, method, n, line),
+            Op::CallI(interface, method, n) => self.call_interface(
+                code, interface, method, n, line,
+            ),
             Op::Try(target) => self.attempt(code, target),
             Op::Now => self.push_moment(now),
             Op::Ret(_) => self.leave(),
