@@ -63,10 +63,10 @@ pub region_put : (r : Result CodeValue CodeValue) (ms ms' : Members) (q : Path) 
 region_put (Ok old) ms ms' q ss new e h =
     let reads : at ms q ≡ Some (value_of old) = ap (λ o. o >>? λ v. value_at v q.steps) h.there ∙ ap (value_at h.from) (sym e) ∙ h.reads in
     let writes : put ms q new ≡ Some ms' =
-        ap (λ o. o >>? λ v. value_with v q.steps new >>? λ w. Some (with_member ms q.region w)) h.there
-        ∙ ap (λ ts. value_with h.from ts new >>? λ w. Some (with_member ms q.region w)) (sym e)
-        ∙ ap (λ o. o >>? λ w. Some (with_member ms q.region w)) h.writes
-        ∙ ap Some (sym h.is) in
+    ap (λ o. o >>? λ v. value_with v q.steps new >>? λ w. Some (with_member ms q.region w)) h.there
+    ∙ ap (λ ts. value_with h.from ts new >>? λ w. Some (with_member ms q.region w)) (sym e)
+    ∙ ap (λ o. o >>? λ w. Some (with_member ms q.region w)) h.writes
+    ∙ ap Some (sym h.is) in
     (writes, store_laws.back ms ms' q (value_of old) new reads writes)
 region_put (Err back) ms ms' q ss new e h =
     (ap (λ ts. member ms q.region >>? λ v. value_with v ts new >>? λ w. Some (with_member ms q.region w)) (sym e) ∙ lost (member ms q.region) (λ v. value_with v ss new) (λ w. Some (with_member ms q.region w)) h.writes, h.is)
@@ -84,10 +84,11 @@ pub local_put : (done : Bool) (fs : List CodeFrame) (d n : ℕ) (ss : List Step)
     → SlotPut done (slot_of x) ss new (slot_of x') → LocalPut done (stack [] fs) d n ss new (stack [] (slice_set fs d (record f { locals = slice_set f.locals n x' })))
 local_put true fs d n ss new f x x' e k h =
     let g = record f { locals = slice_set f.locals n x' } in
-    let is : frame_of g ≡ record (frame_of f) { locals = slice_set (frame_of f).locals n (holds h.0) } = ap (λ l. record (frame_of f) { locals = l }) (map-set slot_of f.locals n x' ∙ ap (slice_set (map slot_of f.locals) n) h.2) in
-    (h.0,
-     ap (λ o. o >>? λ v. value_with v ss new) (local_is fs d n f (Some x) e k) ∙ h.1,
-     sym (ap (with_local (stack [] fs) d n h.0) (stack-at fs d ∙ ap (option_map frame_of) e) ∙ ap (frames_with (stack [] fs) d) (sym is) ∙ stack-with fs d g))
+    let is : frame_of g ≡ record (frame_of f) { locals = slice_set (frame_of f).locals n (holds h.0) } = ap (λ l. record (frame_of f) { locals = l }) (map-set slot_of f.locals n x' ∙ ap (slice_set (map slot_of f.locals) n) h.2) in (
+      h.0,
+      ap (λ o. o >>? λ v. value_with v ss new) (local_is fs d n f (Some x) e k) ∙ h.1,
+      sym (ap (with_local (stack [] fs) d n h.0) (stack-at fs d ∙ ap (option_map frame_of) e) ∙ ap (frames_with (stack [] fs) d) (sym is) ∙ stack-with fs d g),
+    )
 local_put false fs d n ss new f x x' e k h = ap (λ o. o >>? λ v. value_with v ss new) (local_is fs d n f (Some x) e k) ∙ h
 
 pub no_slot : (fs : List CodeFrame) (d n : ℕ) (ss : List Step) (new : Value) (f : CodeFrame) → slice_get fs d ≡ Some f → slice_get f.locals n ≡ None → LocalPut false (stack [] fs) d n ss new (stack [] fs)

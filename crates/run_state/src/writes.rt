@@ -66,13 +66,7 @@ fn put_local(
 }
 
 /// Puts a value at a spot, and remembers what stood in a region.
-pub fn put(
-    alloc: Global,
-    m: &mut RunState,
-    spot: &Spot,
-    new: Value,
-    line: u32,
-) -> Result<(), Stop>
+pub fn put(alloc: Global, m: &mut RunState, spot: &Spot, new: Value, line: u32) -> Result<(), Stop>
     ensures run { Agrees result (run.write (spot_of spot.now) (value_of new) line (state_of m.old)) (state_of m.new) }
     ensures base { Keeps result (base_of m.old) (base_of m.new) }
 {

@@ -12,7 +12,9 @@ ghost use Rattle.run_state.specs.State.{Shows, spot_of, state_of};
 
 use crate::values::path_in;
 use plc_text::{FaultKind, NoMemory};
-use run_state::{RunState, Spot, Stop, fault, into_part, load, local_spot, own_path, path_of, value_of_spot};
+use run_state::{
+    RunState, Spot, Stop, fault, into_part, load, local_spot, own_path, path_of, value_of_spot,
+};
 use st_tree::{Note, Path, Root, Step, Steps, Target};
 use st_types::StType;
 use std::alloc::Global;
@@ -38,12 +40,7 @@ fn part_of(m: &RunState, spot: Spot, step: Step) -> Result<Spot, Stop>
 }
 
 /// What a name stands for; a method's name means the own instance.
-pub fn named_spot(
-    alloc: Global,
-    m: &RunState,
-    target: &Target,
-    line: u32,
-) -> Result<Spot, Stop>
+pub fn named_spot(alloc: Global, m: &RunState, target: &Target, line: u32) -> Result<Spot, Stop>
     ensures { Shows spot_of result (words.named_spot target.now line (state_of m.now)) (state_of m.now) }
 {
     match target {
@@ -62,12 +59,7 @@ pub fn named_spot(
 }
 
 /// What a place begins with. THIS and SUPER are the own instance.
-pub fn root_spot(
-    alloc: Global,
-    m: &RunState,
-    root: &Root<Note>,
-    line: u32,
-) -> Result<Spot, Stop>
+pub fn root_spot(alloc: Global, m: &RunState, root: &Root<Note>, line: u32) -> Result<Spot, Stop>
     ensures { Shows spot_of result (words.root_spot root.now line (state_of m.now)) (state_of m.now) }
 {
     match root {
@@ -91,12 +83,7 @@ fn led_to(alloc: Global, v: &Value, line: u32) -> Result<Path, Stop>
 }
 
 /// Where the reference or interface value at a spot leads.
-pub fn held_spot(
-    alloc: Global,
-    m: &RunState,
-    spot: &Spot,
-    line: u32,
-) -> Result<Spot, Stop>
+pub fn held_spot(alloc: Global, m: &RunState, spot: &Spot, line: u32) -> Result<Spot, Stop>
     ensures { Shows spot_of result (words.held_spot (spot_of spot.now) line (state_of m.now)) (state_of m.now) }
 {
     match value_of_spot(m, spot) {

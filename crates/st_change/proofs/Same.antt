@@ -180,8 +180,8 @@ module _ (p : Program) where
         let first : carry_store p p true s (initial_store p) ≡ s = kept_regions s (initial_store p) h g 0 p.regions s (initial_store p) (whole s h) (whole (initial_store p) g) in
         let last : carry_store p p false s s ≡ s = others s 0 p.regions s (λ k l. each_kept (0 + k) (omega (arith, l))) in
         ap (λ ms.
-          go_on (run_hooks p (exits p p ms) s all_ticks) (λ s1 n1.
-          go_on (run_hooks p (inits p p (coming p p)) (carry_store p p true s1 (initial_store p)) n1) (λ s3 n3. run_hooks p (reinits p p (coming p p)) (carry_store p p false s1 s3) n3))) none_leave
+        go_on (run_hooks p (exits p p ms) s all_ticks) (λ s1 n1.
+        go_on (run_hooks p (inits p p (coming p p)) (carry_store p p true s1 (initial_store p)) n1) (λ s3 n3. run_hooks p (reinits p p (coming p p)) (carry_store p p false s1 s3) n3))) none_leave
         ∙ ap (λ ms. go_on (run_hooks p (inits p p ms) (carry_store p p true s (initial_store p)) all_ticks) (λ s3 n3. run_hooks p (reinits p p ms) (carry_store p p false s s3) n3)) none_come
         ∙ ap (λ t. ran (carry_store p p false s t) all_ticks) first
         ∙ ap (λ t. ran t all_ticks) last

@@ -119,22 +119,25 @@ none_on None f g h = refl
 none_on (Some a) f g h = ap (λ o. o >>= g) h
 
 pub array_exchanged : (r : Result CodeValue CodeValue) (low i : ℤ) (vs vs' : Values) (ss : List Step) (new : Value) → ElementExchanged r low vs i ss new vs' → Exchanged r (array low vs) (step.Element i ∷ ss) new (array low vs')
-array_exchanged (Ok old) low i vs vs' ss new h =
-    (ap (λ o. o >>= λ w. value_at w ss) h.there ∙ h.reads,
-     ap (λ o. o >>= λ w. value_with w ss new >>= λ w'. Some (with_part (array low vs) (step.Element i) w')) h.there ∙ ap (λ o. o >>= λ w'. Some (with_part (array low vs) (step.Element i) w')) h.writes ∙ ap (λ l. Some (array low l)) (sym h.is))
+array_exchanged (Ok old) low i vs vs' ss new h = (
+  ap (λ o. o >>= λ w. value_at w ss) h.there ∙ h.reads,
+  ap (λ o. o >>= λ w. value_with w ss new >>= λ w'. Some (with_part (array low vs) (step.Element i) w')) h.there ∙ ap (λ o. o >>= λ w'. Some (with_part (array low vs) (step.Element i) w')) h.writes ∙ ap (λ l. Some (array low l)) (sym h.is),
+)
 array_exchanged (Err back) low i vs vs' ss new h =
     (h.reads, none_on (part (array low vs) (step.Element i)) (λ w. value_with w ss new) (λ w'. Some (with_part (array low vs) (step.Element i) w')) h.writes, ap (array low) h.is, h.kept)
 
 pub structure_exchanged : (r : Result CodeValue CodeValue) (n : List ℕ) (ms ms' : Members) (i : ℕ) (ss : List Step) (new : Value) → MemberExchanged r ms i ss new ms' → Exchanged r (structure n ms) (step.Field i ∷ ss) new (structure n ms')
-structure_exchanged (Ok old) n ms ms' i ss new h =
-    (ap (λ o. o >>= λ w. value_at w ss) h.there ∙ h.reads,
-     ap (λ o. o >>= λ w. value_with w ss new >>= λ w'. Some (structure n (with_member ms i w'))) h.there ∙ ap (λ o. o >>= λ w'. Some (structure n (with_member ms i w'))) h.writes ∙ ap (λ l. Some (structure n l)) (sym h.is))
+structure_exchanged (Ok old) n ms ms' i ss new h = (
+  ap (λ o. o >>= λ w. value_at w ss) h.there ∙ h.reads,
+  ap (λ o. o >>= λ w. value_with w ss new >>= λ w'. Some (structure n (with_member ms i w'))) h.there ∙ ap (λ o. o >>= λ w'. Some (structure n (with_member ms i w'))) h.writes ∙ ap (λ l. Some (structure n l)) (sym h.is),
+)
 structure_exchanged (Err back) n ms ms' i ss new h =
     (h.reads, none_on (member ms i) (λ w. value_with w ss new) (λ w'. Some (structure n (with_member ms i w'))) h.writes, ap (structure n) h.is, h.kept)
 
 pub instance_exchanged : (r : Result CodeValue CodeValue) (n : List ℕ) (ms ms' : Members) (i : ℕ) (ss : List Step) (new : Value) → MemberExchanged r ms i ss new ms' → Exchanged r (instance n ms) (step.Field i ∷ ss) new (instance n ms')
-instance_exchanged (Ok old) n ms ms' i ss new h =
-    (ap (λ o. o >>= λ w. value_at w ss) h.there ∙ h.reads,
-     ap (λ o. o >>= λ w. value_with w ss new >>= λ w'. Some (instance n (with_member ms i w'))) h.there ∙ ap (λ o. o >>= λ w'. Some (instance n (with_member ms i w'))) h.writes ∙ ap (λ l. Some (instance n l)) (sym h.is))
+instance_exchanged (Ok old) n ms ms' i ss new h = (
+  ap (λ o. o >>= λ w. value_at w ss) h.there ∙ h.reads,
+  ap (λ o. o >>= λ w. value_with w ss new >>= λ w'. Some (instance n (with_member ms i w'))) h.there ∙ ap (λ o. o >>= λ w'. Some (instance n (with_member ms i w'))) h.writes ∙ ap (λ l. Some (instance n l)) (sym h.is),
+)
 instance_exchanged (Err back) n ms ms' i ss new h =
     (h.reads, none_on (member ms i) (λ w. value_with w ss new) (λ w'. Some (instance n (with_member ms i w'))) h.writes, ap (instance n) h.is, h.kept)

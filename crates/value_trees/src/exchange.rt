@@ -30,12 +30,7 @@ pub fn exchange_at(v: &mut Value, steps: &[Step], new: Value) -> Result<Value, V
 
 #[cycle(exchange)]
 #[tactic(auto, using(crate::specs::Value::value_views))]
-fn exchange_in_array(
-    v: &mut Value,
-    index: &i128,
-    rest: &[Step],
-    new: Value,
-) -> Result<Value, Value>
+fn exchange_in_array(v: &mut Value, index: &i128, rest: &[Step], new: Value) -> Result<Value, Value>
     ensures { Exchanged result (value_of v.old) (Step.Element index.now ∷ rest.now) (value_of new) (value_of v.new) }
 {
     match mem::replace(v, Value::Number(0)) {

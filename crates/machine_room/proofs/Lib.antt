@@ -1,0 +1,5 @@
+pub mod ArgumentLaws
+pub mod MemoryLaws
+pub mod NumberLaws
+pub mod WindowLaws
+pub mod WordLaws
