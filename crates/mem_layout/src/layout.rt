@@ -91,8 +91,9 @@ fn regions_of(
 }
 
 impl Layout {
-    /// The layout of a program whose regions have types that unfold, to fewer than 2^32 bytes each. Time and memory are linear
-    /// in the variables that its classes have, with those of their bases.
+    /// The layout of a program whose regions have types that unfold, to fewer than 2^32 bytes each. The tables take
+    /// time and memory linear in the variables that its classes have, with those of their bases; these are listed by `st_initial`,
+    /// which seeks each base by name among all classes.
     pub fn build(alloc: Global, p: &Program) -> Result<Layout, NoMemory>
         requires { RegionsHaveShapes (program_of p.now) }
         ensures { IfOk result (λ layout. layout ≡ p.now) }
