@@ -1,15 +1,13 @@
 //! The state of a run, and what one instruction does to it.
 
 ghost use Rattle.std.specs.Prelude.{◌≡◌, ◌+◌, ◌^◌, ◌<◌, length};
-ghost use Rattle.stack_code.specs.Steps.{fault_at};
 ghost use Rattle.stack_code.specs.Machine as machine;
 ghost use Rattle.cycle_machine.specs.Room.{HoldsLocals};
 ghost use Rattle.cycle_machine.specs.Private.Machine.{config, went, Keeps, IsTall};
 
 use machine_room::{Frames, Locals, Words};
 use mem_image::Regions;
-use plc_text::{Fault, FaultKind};
-use stack_code::{Ending, Frame, Op, Outcome};
+use stack_code::{Ending, Frame, Op};
 use valid_code::ValidCode;
 
 /// The state of a run. Between runs it has no regions.
@@ -86,10 +84,4 @@ impl Machine {
             Op::End => self.end(),
         }
     }
-}
-
-pub fn fault(kind: FaultKind, line: u32) -> Ending
-    ensures { result ≡ fault_at kind line }
-{
-    Ending::Ended(Outcome::Fault(Fault { kind, line }))
 }

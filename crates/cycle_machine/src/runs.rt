@@ -7,9 +7,8 @@ ghost use Rattle.machine_room.specs.Answers.{stored};
 ghost use Rattle.cycle_machine.specs.Room.{IsRoomFor};
 ghost use Rattle.cycle_machine.specs.Private.Machine.{config, capacity, IsBegun};
 
-use crate::comparison::truth;
 use crate::machine::Machine;
-use machine_room::{Locals, write_argument};
+use machine_room::{Locals, truth, write_argument};
 use stack_code::{Address, Ending, Frame, Outcome, Word};
 use valid_code::ValidCode;
 

@@ -4,10 +4,14 @@ ghost use Rattle.std.specs.Prelude.{◌≡◌, ◌+◌, ◌*◌, ◌^◌, ◌<�
 ghost use Rattle.stack_code.specs.declared.machine.Ending.TheVariants.{Stuck};
 ghost use Rattle.st_types.specs.declared.elem.Elem.TheVariants as kind;
 ghost use Rattle.st_types.specs.Range.{Fits};
+ghost use Rattle.stack_code.specs.declared.memory.Word.TheVariants as word;
 ghost use Rattle.stack_code.specs.Memory as memory;
+ghost use Rattle.stack_code.specs.Machine as machine;
 ghost use Rattle.machine_room.specs.Answers.{settled};
 
+use crate::numbers::fault;
 use plc_num::wrap;
+use plc_text::FaultKind;
 use st_types::Elem;
 use stack_code::{Address, Ending, Space, Word};
 
@@ -98,5 +102,60 @@ pub fn reference_of(number: i128) -> Word
         Word::Null
     } else {
         Word::Address(address_of(number))
+    }
+}
+
+/// The element with that index.
+#[inline]
+pub fn element(a: Address, lo: i128, hi: i128, size: u32, i: i128, line: u32) -> Result<Address, Ending>
+    ensures { machine.element a lo hi size i line ≡ settled result }
+{
+    if i < lo || hi < i {
+        return Err(fault(FaultKind::Index, line));
+    }
+    match i.abs_diff(lo).checked_mul(size as u128) {
+        Some(bytes) if bytes < 0x1_0000_0000 => moved(a, bytes as u64),
+        _ => Err(Ending::Stuck),
+    }
+}
+
+#[inline]
+fn same_space(a: Space, b: Space) -> bool
+    ensures { result ≡ memory.same_space a b }
+{
+    match a {
+        Space::Regions => match b {
+            Space::Regions => true,
+            Space::Locals => false,
+        },
+        Space::Locals => match b {
+            Space::Regions => false,
+            Space::Locals => true,
+        },
+    }
+}
+
+#[inline]
+fn same_address(a: Address, b: Address) -> bool
+    ensures { result ≡ memory.same_reference (word.Address a) (word.Address b) }
+{
+    same_space(a.space, b.space) && a.index == b.index && a.offset == b.offset
+}
+
+/// Whether two references are equal.
+#[inline]
+pub fn same_reference(a: Word, b: Word) -> bool
+    ensures { result ≡ memory.same_reference a b }
+{
+    match a {
+        Word::Number(_) => false,
+        Word::Address(a) => match b {
+            Word::Address(b) => same_address(a, b),
+            _ => false,
+        },
+        Word::Null => match b {
+            Word::Null => true,
+            _ => false,
+        },
     }
 }
