@@ -6,6 +6,8 @@ mod layout;
 mod places;
 mod rounds;
 mod sizes;
+#[cfg(test)]
+mod tests;
 mod ways;
 
 pub use layout::Layout;

@@ -7,3 +7,4 @@ pub mod Once
 pub mod Image
 pub mod Examples
 pub mod Suits
+pub mod Initial

@@ -35,7 +35,7 @@ placed a w b i n e f = record {
       rw (u, v) (sym (middle a w b k m (omega (arith, f, s))));
 }
 
-whole_range : (w : List ℕ) (n : ℕ) → length w ≡ n → slice_range w 0 (0 + n) ≡ w
+pub whole_range : (w : List ℕ) (n : ℕ) → length w ≡ n → slice_range w 0 (0 + n) ≡ w
 whole_range w n e = let z : 0 + n - 0 ≡ n = omega arith in rw z (take_all n w (omega (arith, e)))
 
 -- a list stands where it was put

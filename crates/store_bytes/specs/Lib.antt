@@ -4,3 +4,4 @@ pub mod Image
 pub mod PlaceLaws
 pub mod StoreLaws
 pub mod SuitsLaws
+pub mod InitialLaws

@@ -1,11 +1,13 @@
 //! What follows from the definitions of places and of the bytes that spell values.
 
 ghost use Rattle.std.specs.Prelude.{ℕ, Bool, List, Option};
+ghost use Rattle.st_values.specs.Program.{Program};
 ghost use Rattle.st_values.specs.Shape.{Shape};
 ghost use Rattle.st_values.specs.Value.{Store};
 ghost use Rattle.store_bytes.specs.PlaceLaws.{PlaceLaws, KeptOnce};
 ghost use Rattle.store_bytes.specs.StoreLaws.{StoreLaws, SpellingLaws};
 ghost use Rattle.store_bytes.specs.SuitsLaws.{SuitsLaws};
+ghost use Rattle.store_bytes.specs.InitialLaws.{InitialLaws};
 
 /// Parts lie within the whole, share no byte where they are not within each other, and one way leads to what begins at a
 /// place.
@@ -23,4 +25,9 @@ pub fn spelling_laws()
 /// Reads, writes and copies of bytes at the places of paths are reads, writes and assignments in the store.
 pub fn store_laws()
     ensures { (regions : ℕ → Option Shape) (is_held : ℕ → Bool) (images : List (Option (List ℕ))) (store : Store) → StoreLaws regions is_held images store }
+{}
+
+/// The bytes of initial values spell them, so the images of the beginning show the store of the beginning.
+pub fn initial_laws()
+    ensures { (p : Program) → InitialLaws p }
 {}

@@ -4,4 +4,4 @@
 
 mod laws;
 
-pub use laws::{place_laws, spelling_laws, store_laws};
+pub use laws::{initial_laws, place_laws, spelling_laws, store_laws};
