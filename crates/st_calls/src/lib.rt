@@ -17,4 +17,4 @@ pub use conversions::{bound_fault, is_assignable, is_bindable, output_fault, val
 pub use faults::{call_type, callee_fault, result_fault};
 pub use heads::{Head, heads_of};
 pub use matching::{Matched, matches};
-pub use parameters::{callee_parameters, operand_of};
+pub use parameters::{block_parameters, callee_parameters, operand_of, routine_parameters};

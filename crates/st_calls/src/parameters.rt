@@ -76,7 +76,8 @@ pub fn block_parameters<'a>(
     Ok(list)
 }
 
-fn routine_parameters<'a>(
+/// Those of a function or a method.
+pub fn routine_parameters<'a>(
     alloc: Global,
     variables: &'a [DeclaredVariable],
 ) -> Result<Vec<&'a DeclaredVariable>, NoMemory>

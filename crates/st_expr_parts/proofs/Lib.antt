@@ -1,0 +1,4 @@
+pub mod CountLaws
+pub mod LastLaws
+pub mod SlotLaws
+pub mod Views

@@ -1,0 +1,10 @@
+pub mod Along
+pub mod Calls
+pub mod Found
+pub mod Given
+pub mod Lists
+pub mod Private
+pub mod Rows
+pub mod Slots
+pub mod Wholes
+pub mod Wraps
