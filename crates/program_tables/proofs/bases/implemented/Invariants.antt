@@ -1,0 +1,7 @@
+use Rattle.std.proofs.Common.{◌≡◌, ◌++◌, drop, map}
+use Rattle.program_tables.specs.Private.Bases.{implemented_by}
+use Rattle.program_tables.proofs.bases.implemented.Given as goal
+
+-- what is found, with what is left, is what all give
+abbrev pub invariant-loop-class : goal.invariant-loop-class
+invariant-loop-class l = l.all.items ++ map (implemented_by l.places) (drop l.class-index l.classes) ≡ map (implemented_by l.places) l.classes

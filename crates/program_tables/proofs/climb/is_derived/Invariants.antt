@@ -1,0 +1,10 @@
+use Rattle.std.proofs.Common.{◌≡◌, ◌+◌, nat_eq, length}
+use Rattle.program_tables.specs.Private.Climb.{any_upward, base_in}
+use Rattle.program_tables.proofs.climb.is_derived.Given as goal
+
+-- what is left to be searched gives what all gives
+abbrev pub invariant-classes : goal.invariant-classes
+invariant-classes l = any_upward (nat_eq l.other) (base_in l.bases) l.left l.at ≡ any_upward (nat_eq l.other) (base_in l.bases) (length l.bases + 1) l.class
+
+abbrev pub decreases-classes : goal.decreases-classes
+decreases-classes l = l.left
