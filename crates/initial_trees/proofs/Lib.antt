@@ -1,0 +1,5 @@
+pub mod LevelLaws
+pub mod ListLaws
+pub mod StoreLaws
+pub mod KindLaws
+pub mod StepLaws
