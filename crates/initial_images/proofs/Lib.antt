@@ -1,0 +1,4 @@
+pub mod FillLaws
+pub mod TypeLaws
+pub mod LoopLaws
+pub mod ImageLaws
