@@ -1,0 +1,189 @@
+-- What constants of a class or a routine need, and the marks of those that need themselves.
+use Rattle.std.proofs.Common.{◌≡◌, ℕ, suc, ◌+◌, ◌<◌, ◌≤◌, Bool, true, false, List, [], ◌∷◌, ◌++◌, Option, Some, None, Bor, map, length, get_or, drop, refl, sym, ap, ◌∙◌, arith, add-one, subst}
+use Rattle.std.specs.Prelude.{◌&&◌, flat_map, filter_map, slice_get, cond, option_map, if◌then◌else◌}
+use Rattle.std.proofs.lemmas.List.{length-map}
+use Rattle.plc_text.specs.declared.code.Code.{Code}
+use Rattle.plc_text.specs.declared.code.Code.TheVariants.{E06}
+use Rattle.plc_text.specs.Words.{same}
+use Rattle.st_tree.specs.declared.declaration.Item.{Item}
+use Rattle.st_tree.specs.declared.declaration.Section.{Section}
+use Rattle.st_tree.specs.Initial.{initial_of}
+use Rattle.st_rules.specs.Faults.{Faults, earlier, least, when}
+use Rattle.st_rules.specs.Numbered.{each_numbered}
+use Rattle.st_rules.proofs.Booleans.{none≢some, some-same}
+use Rattle.st_rules.proofs.FaultLaws.{earlier-assoc, earlier-none, least-append}
+use Rattle.st_rules.proofs.ListLaws.{drop-at, drop-end}
+use Rattle.declared_names.specs.Variables.{Written, sections_written}
+use Rattle.declared_names.specs.Declarations.{item_line}
+use Rattle.st_unit_rules.specs.Cycles.{names_in_bounds, names_in_value, inner_place, inner_needed, inner_cycles, lies_on_cycle}
+use Rattle.graph_cycles.specs.declared.graph.Edge.{Edge}
+use Rattle.graph_cycles.specs.Graph.{AreWithin, marked}
+use Rattle.declaration_list.specs.declared.written.WrittenName.{WrittenName}
+use Rattle.declaration_list.specs.Written.{global_of, written_of, names_in_sections}
+use Rattle.declaration_list.proofs.GlobalLaws.{written_by_names}
+use Rattle.declared_graph.specs.Private.Edges.{edges_from, out_at, told}
+use Rattle.declared_graph.specs.Private.Names.{texts_of}
+use Rattle.declared_graph.specs.Private.Inner.{InnerTable, inner_constant, inner_from, flat, inner_found, IsPut, IsInnerTable, is_first_name, named_by, needed_by_item, needed_of, marked_fault, marked_faults, OnCycles}
+use Rattle.declared_graph.specs.Private.Shared.{hub_outs, Shares, AreBelow, IsShared}
+use Rattle.declared_graph.proofs.BoundLaws.{Below, named_below, if_below, all_below}
+use Rattle.declared_graph.proofs.CycleLaws.{cycle_same}
+use Rattle.declared_graph.proofs.GraphLaws.{out_is, hub_edges_are}
+use Rattle.declared_graph.proofs.HubLaws.{hubs_within}
+use Rattle.declared_graph.proofs.PlaceLaws.{told_next}
+use Rattle.declared_graph.proofs.SharedLaws.{names_share}
+
+module _ (table : InnerTable) where
+  constants_are : (ns : List (Bor (List ℕ))) → flat_map (named_by table) ns ≡ filter_map (inner_found table) (texts_of ns)
+  constants_are [] = refl
+  constants_are (n ∷ ns) = ap (λ ys. named_by table n ++ ys) (constants_are ns) ∙ told_next (inner_found table) n.now (texts_of ns)
+
+  pub item_needs : (item : Item ℕ) (ns : List (Bor (List ℕ))) → texts_of ns ≡ names_in_bounds item.kind ++ names_in_value (option_map initial_of item.initial) → flat_map (named_by table) ns ≡ needed_by_item table item
+  item_needs item ns e = constants_are ns ∙ ap (filter_map (inner_found table)) e
+
+-- ---- the table
+
+-- so much of the list is left
+pub record InnerTo (table : InnerTable) (names : List WrittenName) (i : ℕ) : Type 0 where
+  pub within : i ≤ length names
+  pub finds : (name : List ℕ) → inner_found table name ≡ inner_from name i (map written_of (drop i names))
+
+put_found : (b : Bool) (v : Option ℕ) (o : Option (Option ℕ)) (rest : Option ℕ) → flat o ≡ rest → flat (cond b (Some v) o) ≡ (if b then v else rest)
+put_found true v o rest e = refl
+put_found false v o rest e = e
+
+pub table_begun : (table : InnerTable) (names : List WrittenName) → ((name : List ℕ) → inner_found table name ≡ None) → InnerTo table names (length names)
+table_begun table names h = record { within = omega arith; finds = λ name. h name ∙ sym (ap (λ ws. inner_from name (length names) (map written_of ws)) (drop-end names (length names) (omega arith))) }
+
+pub table_next : (old new : InnerTable) (names : List WrittenName) (i j : ℕ) (x : WrittenName) → j ≡ i + 1 → i < length names → x ≡ get_or names i x → IsPut old new x.name.now.text (inner_constant (written_of x).constant i)
+    → InnerTo old names j → InnerTo new names i
+table_next old new names i j x k l e p t = record {
+  within = omega arith;
+  finds = λ name.
+      ap flat (p name)
+      ∙ put_found (same x.name.now.text name) (inner_constant (written_of x).constant i) _ _ (t.finds name ∙ ap (λ m. inner_from name m (map written_of (drop m names))) k ∙ ap (λ m. inner_from name m (map written_of (drop (i + 1) names))) (add-one i))
+      ∙ ap (λ xs. inner_from name i (map written_of xs)) (sym (drop-at names i x l e));
+}
+
+-- ---- places
+
+from_below : (name : List ℕ) (i : ℕ) (ws : List Written) (k : ℕ) → inner_from name i ws ≡ Some k → k < i + length ws
+from_below name i [] k e = absurd (none≢some e)
+from_below name i (w ∷ ws) k e = of (λ h. from_below name (suc i) ws k h) (same w.name.text name) w.constant e
+  where
+    of : (inner_from name (suc i) ws ≡ Some k → k < suc i + length ws) → (b c : Bool) → (if b then inner_constant c i else inner_from name (suc i) ws) ≡ Some k → k < i + length (w ∷ ws)
+    of r true true h = let s : i ≡ k = some-same h in omega arith
+    of r true false h = absurd (none≢some h)
+    of r false c h = let l : k < suc i + length ws = r h in omega arith
+
+inner_is : (ws : List Written) (name : List ℕ) → inner_place ws name ≡ inner_from name 0 ws
+inner_is ws name = refl
+
+mapped_same : (f g : List ℕ → Option ℕ) → ((n : List ℕ) → f n ≡ g n) → (ns : List (List ℕ)) → filter_map f ns ≡ filter_map g ns
+mapped_same f g h [] = refl
+mapped_same f g h (n ∷ ns) = sym (told_next f n ns) ∙ ap (λ o. told o ++ filter_map f ns) (h n) ∙ ap (λ ys. told (g n) ++ ys) (mapped_same f g h ns) ∙ told_next g n ns
+
+module _ (table : InnerTable) (ws : List Written) (t : IsInnerTable table ws) where
+  found_is : (n : List ℕ) → inner_found table n ≡ inner_place ws n
+  found_is n = t.finds n ∙ sym (inner_is ws n)
+
+  item_is : (item : Item ℕ) → needed_by_item table item ≡ filter_map (inner_place ws) (names_in_bounds item.kind ++ names_in_value (option_map initial_of item.initial))
+  item_is item = mapped_same (inner_found table) (inner_place ws) found_is (names_in_bounds item.kind ++ names_in_value (option_map initial_of item.initial))
+
+  both : (a b : Bool) (xs ys : List ℕ) → xs ≡ ys → (if a && b then xs else []) ≡ (if a then (if b then ys else []) else [])
+  both true true xs ys e = e
+  both true false xs ys e = refl
+  both false b xs ys e = refl
+
+  needed_is : (w : WrittenName) → needed_of table w ≡ (if w.first then inner_needed ws (Some (written_of w)) else [])
+  needed_is w = both w.first (written_of w).constant (needed_by_item table w.item.now) _ (item_is w.item.now)
+
+  pub needed_are : (xs : List WrittenName) → map (needed_of table) xs ≡ map (λ x. if (global_of x).first then inner_needed ws (Some (global_of x).written) else []) xs
+  needed_are [] = refl
+  needed_are (x ∷ xs) = ap (λ y. y ∷ map (needed_of table) xs) (needed_is x) ∙ ap (λ ys. (if x.first then inner_needed ws (Some (written_of x)) else []) ∷ ys) (needed_are xs)
+
+  place_below : (name : List ℕ) (k : ℕ) → inner_found table name ≡ Some k → k < length ws
+  place_below name k e = let r : k < 0 + length ws = from_below name 0 ws k (sym (t.finds name) ∙ e) in omega arith
+
+  needs_below : (w : WrittenName) → Below (length ws) (needed_of table w)
+  needs_below w = if_below (length ws) (w.first && (written_of w).constant) (needed_by_item table w.item.now) (named_below (length ws) (inner_found table) place_below (names_in_bounds w.item.now.kind ++ names_in_value (option_map initial_of w.item.now.initial)))
+
+  inner_below : (name : List ℕ) (k : ℕ) → inner_place ws name ≡ Some k → k < length ws
+  inner_below name k e = let r : k < 0 + length ws = from_below name 0 ws k (sym (inner_is ws name) ∙ e) in omega arith
+
+  gives_below : (w : Written) → Below (length ws) (inner_needed ws (Some w))
+  gives_below w = if_below (length ws) w.constant (filter_map (inner_place ws) (names_in_bounds w.item.kind ++ names_in_value (option_map initial_of w.item.initial))) (named_below (length ws) (inner_place ws) inner_below (names_in_bounds w.item.kind ++ names_in_value (option_map initial_of w.item.initial)))
+
+-- ---- marks
+
+module _ (table : InnerTable) (names : List WrittenName) (t : IsInnerTable table (map written_of names)) (flags : List Bool) (f : flags ≡ map is_first_name names) where
+  many : length flags ≡ length names
+  many = ap length f ∙ length-map names is_first_name
+
+  as_many : length flags ≡ length (map written_of names)
+  as_many = many ∙ sym (length-map names written_of)
+
+  pub inner_within : (hubs edges : List Edge) → hubs ≡ edges_from 0 (hub_outs flags) → edges ≡ hubs ++ edges_from (length names) (map (needed_of table) names) → AreWithin (length flags + length flags) edges
+  inner_within hubs edges h e =
+      subst (λ (es : List Edge). AreWithin (length flags + length flags) es) (sym (hub_edges_are flags (map (needed_of table) names) (length names) hubs edges (sym many) h e))
+      (hubs_within flags (map (needed_of table) names) [] (record {
+        as_many = length-map names (needed_of table) ∙ sym many;
+        below = subst (λ (n : ℕ). AreBelow n (map (needed_of table) names)) (sym as_many) (all_below (length (map written_of names)) (needed_of table) (needs_below table (map written_of names) t) names);
+      }))
+
+  pub inner_told : (sections : List (Section ℕ)) → map global_of names ≡ names_in_sections sections → (hubs edges : List Edge) → hubs ≡ edges_from 0 (hub_outs flags)
+      → edges ≡ hubs ++ edges_from (length names) (map (needed_of table) names) → (marks : List Bool)
+      → ((outs gives : List (List ℕ)) → IsShared flags outs gives → edges ≡ edges_from 0 (hub_outs flags ++ outs) → (i : ℕ) → marked marks i ≡ lies_on_cycle (out_at gives) (length flags) i)
+      → OnCycles marks (map written_of names)
+  inner_told sections is hubs edges h e marks d = record {
+    on = λ i.
+        d (map (needed_of table) names) (map (λ x. inner_needed (map written_of names) (Some (written_of x))) names) shared (hub_edges_are flags (map (needed_of table) names) (length names) hubs edges (sym many) h e) i
+        ∙ ap (λ n. lies_on_cycle (out_at (map (λ x. inner_needed (map written_of names) (Some (written_of x))) names)) n i) as_many
+        ∙ cycle_same (out_at (map (λ x. inner_needed (map written_of names) (Some (written_of x))) names)) (λ k. inner_needed (map written_of names) (slice_get (map written_of names) k))
+        (out_is written_of (inner_needed (map written_of names)) refl names) (length (map written_of names)) i;
+  }
+    where
+      shared : IsShared flags (map (needed_of table) names) (map (λ x. inner_needed (map written_of names) (Some (written_of x))) names)
+      shared = record {
+        shares =
+            subst (λ (bs : List Bool). Shares None bs (map (needed_of table) names) (map (λ x. inner_needed (map written_of names) (Some (written_of x))) names)) (sym f)
+            (subst (λ (os : List (List ℕ)). Shares None (map is_first_name names) os (map (λ x. inner_needed (map written_of names) (Some (written_of x))) names)) (sym (needed_are table (map written_of names) t names))
+            (names_share global_of names (map written_of names) sections is));
+        below =
+            subst (λ (n : ℕ). AreBelow n (map (λ x. inner_needed (map written_of names) (Some (written_of x))) names)) (sym as_many)
+            (all_below (length (map written_of names)) (λ (x : WrittenName). inner_needed (map written_of names) (Some (written_of x))) (λ x. gives_below table (map written_of names) t (written_of x)) names);
+      }
+
+-- ---- faults of those that are marked
+
+numbered_same : (p q : ℕ → Written → Faults) → ((i : ℕ) (w : Written) → p i w ≡ q i w) → (n : ℕ) (ws : List Written) → each_numbered p n ws ≡ each_numbered q n ws
+numbered_same p q h n [] = refl
+numbered_same p q h n (w ∷ ws) = ap (λ xs. xs ++ each_numbered p (suc n) ws) (h n w) ∙ ap (λ xs. q n w ++ xs) (numbered_same p q h (suc n) ws)
+
+pub cycles_are : (marks : List Bool) (names : List WrittenName) (sections : List (Section ℕ)) → map global_of names ≡ names_in_sections sections → OnCycles marks (map written_of names)
+    → least (marked_faults marks (map written_of names)) ≡ least (inner_cycles (sections_written sections))
+unfolding inner_cycles
+cycles_are marks names sections e o =
+    ap least (numbered_same (marked_fault marks) (λ i w. when (lies_on_cycle (λ k. inner_needed (map written_of names) (slice_get (map written_of names) k)) (length (map written_of names)) i) E06 (item_line w.item))
+    (λ i w. ap (λ b. when b E06 (item_line w.item)) (o.on i)) 0 (map written_of names))
+    ∙ ap (λ ws. least (inner_cycles ws)) (written_by_names names sections e)
+
+pub record MarkedTo (marks : List Bool) (names : List WrittenName) (found : Option (Code × ℕ)) (i : ℕ) : Type 0 where
+  pub rest : earlier found (least (each_numbered (marked_fault marks) i (map written_of (drop i names)))) ≡ least (marked_faults marks (map written_of names))
+
+module _ (marks : List Bool) (names : List WrittenName) where
+  pub marked_begun : MarkedTo marks names None 0
+  marked_begun = record { rest = refl }
+
+  pub marked_next : (found g more : Option (Code × ℕ)) (i : ℕ) (x : WrittenName) → i < length names → x ≡ get_or names i x → g ≡ least (marked_fault marks i (written_of x)) → more ≡ earlier found g
+      → MarkedTo marks names found i → MarkedTo marks names more (i + 1)
+  marked_next found g more i x l e h m t = record {
+    rest =
+        ap (λ y. earlier y (least (each_numbered (marked_fault marks) (i + 1) (map written_of (drop (i + 1) names))))) m
+        ∙ ap (λ n. earlier (earlier found g) (least (each_numbered (marked_fault marks) n (map written_of (drop (i + 1) names))))) (add-one i)
+        ∙ sym (earlier-assoc found g (least (each_numbered (marked_fault marks) (suc i) (map written_of (drop (i + 1) names)))))
+        ∙ ap (earlier found) (ap (λ y. earlier y (least (each_numbered (marked_fault marks) (suc i) (map written_of (drop (i + 1) names))))) h ∙ sym (least-append (marked_fault marks i (written_of x)) (each_numbered (marked_fault marks) (suc i) (map written_of (drop (i + 1) names)))))
+        ∙ ap (λ ys. earlier found (least (each_numbered (marked_fault marks) i (map written_of ys)))) (sym (drop-at names i x l e)) ∙ t.rest;
+  }
+
+  pub marked_ended : (found : Option (Code × ℕ)) (i : ℕ) → length names ≤ i → MarkedTo marks names found i → found ≡ least (marked_faults marks (map written_of names))
+  marked_ended found i l t = sym (earlier-none found) ∙ ap (λ ys. earlier found (least (each_numbered (marked_fault marks) i (map written_of ys)))) (sym (drop-end names i l)) ∙ t.rest

@@ -1,0 +1,12 @@
+pub mod BoundLaws
+pub mod ContainedLaws
+pub mod CycleLaws
+pub mod EdgeLaws
+pub mod GraphLaws
+pub mod HubLaws
+pub mod InnerLaws
+pub mod LoopLaws
+pub mod NameLaws
+pub mod NeededLaws
+pub mod PlaceLaws
+pub mod SharedLaws
