@@ -14,7 +14,8 @@ use Rattle.st_values.specs.View.{program_of, classes_from, programs_from, type_e
 use Rattle.st_initial.specs.declared.variables.Variable as held
 use Rattle.st_initial.specs.Variables.{variables_of, fields_at}
 use Rattle.st_initial.specs.Members.{items_at, list_at}
-use Rattle.st_initial.proofs.VariableLaws.{front_get, back_get, fields_there, program_climbs}
+use Rattle.program_tables.proofs.ClassLaws.{only, program_climbs}
+use Rattle.st_initial.proofs.VariableLaws.{fields_there}
 
 -- these are the first lists
 pub record FirstLists (all : List (List held.Variable)) (n : ℕ) (of : ℕ → List Variable) : Type 0 where
@@ -77,24 +78,9 @@ module _ (p : CheckedProgram) where
   no_variables_past k h =
       let a : length p.classes ≤ k = omega arith in
       let b : length p.programs ≤ k - length p.classes = omega arith in
-      ap (λ cs. own_variables (program_of p) (reverse cs)) (program_climbs p k None a (slice_get_past p.programs (k - length p.classes) b))
+      ap (λ cs. own_variables (program_of p) (reverse cs)) (program_climbs p k a ∙ ap (only k) (slice_get_past p.programs (k - length p.classes) b))
 
 -- ---- how many there are
-
-count_from : (cs : List (ClassDecl Note)) (is : List (InterfaceDecl Note)) (c : ℕ) (ds : List (ClassDecl Note)) → length (classes_from cs is c ds) ≡ length ds
-count_from cs is c [] = refl
-count_from cs is c (d ∷ ds) = ap suc (count_from cs is (suc c) ds)
-
-count_programs : (c : ℕ) (ds : List (ProgramDecl Note)) → length (programs_from c ds) ≡ length ds
-count_programs c [] = refl
-count_programs c (d ∷ ds) = ap suc (count_programs (suc c) ds)
-
-pub count_classes : (p : CheckedProgram) → length (program_of p).classes ≡ length p.classes + length p.programs
-count_classes p =
-    let a = length-append (classes_from p.classes p.interfaces 0 p.classes) (programs_from (length p.classes) p.programs) in
-    let b = count_from p.classes p.interfaces 0 p.classes in
-    let c = count_programs (length p.classes) p.programs in
-    omega (arith, a, b, c)
 
 pub count_types : (p : CheckedProgram) → length (program_of p).types ≡ length p.types
 count_types p = length-map p.types type_entry

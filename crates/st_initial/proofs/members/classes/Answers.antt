@@ -1,7 +1,8 @@
 use Rattle.std.proofs.Common.{arith}
 use Rattle.st_values.specs.Program.{class_variables}
 use Rattle.st_values.specs.View.{program_of}
-use Rattle.st_initial.proofs.TableLaws.{all_lists, no_variables_past, count_classes}
+use Rattle.program_tables.proofs.ClassLaws.{count_classes}
+use Rattle.st_initial.proofs.TableLaws.{all_lists, no_variables_past}
 use Rattle.st_initial.proofs.members.classes.Goals as goal
 
 pub returns-clause-each : goal.returns-clause-each
