@@ -5,8 +5,6 @@
 mod given;
 mod members;
 mod region_numbers;
-#[cfg(test)]
-mod tests;
 mod variables;
 
 pub use given::{elements_given, fields_given, given_for, number_given};
