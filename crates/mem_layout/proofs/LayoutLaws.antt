@@ -16,11 +16,11 @@ use Rattle.mem_layout.specs.declared.sizes.Measure.{Measure}
 use Rattle.mem_layout.specs.declared.sizes.Tables.{Tables}
 use Rattle.mem_layout.specs.declared.layout.Region.{Region as Row}
 use Rattle.mem_layout.specs.Layout as plain
-use Rattle.mem_layout.specs.Layout.{IsSmall, HasShape, AllHaveShapes, IsPlace, IsSizeOf, IsPart}
+use Rattle.mem_layout.specs.Layout.{IsSmall, HasShape, AllHaveShapes, RegionsHaveShapes, IsPlace, IsSizeOf, IsPart}
 use Rattle.mem_layout.specs.Private.Table.{IsMeasure, AreTables, Reach}
 use Rattle.mem_layout.specs.Private.Place.{offset_of, LeadsAt}
 use Rattle.mem_layout.specs.Private.Way.{Begins, IsWay}
-use Rattle.mem_layout.specs.Private.Regions.{IsRegion, AreRegions, IsLayout}
+use Rattle.mem_layout.specs.Private.Regions.{IsRegion, AreRegions, HasRows, IsLayout}
 use Rattle.mem_layout.proofs.PlaceLaws.{some_offset, no_offset}
 
 -- ---- types
@@ -44,6 +44,9 @@ parted p t rs kind s r l h f sh u = subst (λ z. IsPart p r (part_place z s)) (s
 
 -- ---- regions
 
+pub with_rows : (p : Program) (t : Tables) (rs : List Row) → IsLayout p t rs → RegionsHaveShapes p → HasRows p t rs
+with_rows p t rs l h = record { tables = l.tables; reach = l.reach; regions-are = l.regions-are h }
+
 region_at : (p : Program) (xs : List Region) (rs : List Row) (r : ℕ) (y : Row) → AreRegions p xs rs → slice_get rs r ≡ Some y → (x : Region) × (slice_get xs r ≡ Some x) × IsRegion p x y
 region_at p [] [] r y h e = cc
 region_at p [] (z ∷ zs) r y h e = absurd h
@@ -58,21 +61,21 @@ region_past p (x ∷ xs) [] r h e = absurd h
 region_past p (x ∷ xs) (z ∷ zs) zero h e = cc
 region_past p (x ∷ xs) (z ∷ zs) (suc r) h e = region_past p xs zs r h.1 e
 
-region_shaped : (p : Program) (t : Tables) (rs : List Row) (r : ℕ) (y : Row) → IsLayout p t rs → slice_get rs r ≡ Some y → (h : HasShape p y.kind) × (region_shape p r ≡ Some h.shape) × (y.size ≡ size h.shape)
+region_shaped : (p : Program) (t : Tables) (rs : List Row) (r : ℕ) (y : Row) → HasRows p t rs → slice_get rs r ≡ Some y → (h : HasShape p y.kind) × (region_shape p r ≡ Some h.shape) × (y.size ≡ size h.shape)
 region_shaped p t rs r y l e =
     let x = region_at p p.regions rs r y l.regions-are e in
     let i = x.2 in
     let there : region_shape p r ≡ shape_of p x.0.variable.kind = ap (λ o. o >>= λ (z : Region). shape_of p z.variable.kind) x.1 in
     (i.has, there ∙ (ap (shape_of p) (sym i.kind-is) ∙ i.has.unfolds), i.size-is)
 
-region_none : (p : Program) (t : Tables) (rs : List Row) (r : ℕ) → IsLayout p t rs → slice_get rs r ≡ None → region_shape p r ≡ None
+region_none : (p : Program) (t : Tables) (rs : List Row) (r : ℕ) → HasRows p t rs → slice_get rs r ≡ None → region_shape p r ≡ None
 region_none p t rs r l e = ap (λ o. o >>= λ (z : Region). shape_of p z.variable.kind) (region_past p p.regions rs r l.regions-are e)
 
-pub sized : (p : Program) (t : Tables) (rs : List Row) (r : ℕ) (y : Row) → IsLayout p t rs → slice_get rs r ≡ Some y → IsSizeOf p r y.size
+pub sized : (p : Program) (t : Tables) (rs : List Row) (r : ℕ) (y : Row) → HasRows p t rs → slice_get rs r ≡ Some y → IsSizeOf p r y.size
 sized p t rs r y l e = let h = region_shaped p t rs r y l e in record { shape = h.0.shape; is = h.1; size-is = h.2 }
 
 -- a region of the program has a row
-pub rows_there : (p : Program) (t : Tables) (rs : List Row) (r : ℕ) → IsLayout p t rs → r < length p.regions → slice_get rs r ≡ None → ⊥
+pub rows_there : (p : Program) (t : Tables) (rs : List Row) (r : ℕ) → HasRows p t rs → r < length p.regions → slice_get rs r ≡ None → ⊥
 rows_there p t rs r l h e =
     let n = region_past p p.regions rs r l.regions-are e in
     go p.regions r h n
@@ -84,16 +87,16 @@ rows_there p t rs r l h e =
 
 -- ---- places
 
-pub no_region : (p : Program) (t : Tables) (rs : List Row) (q : Path) → IsLayout p t rs → slice_get rs q.region ≡ None → place_of (region_shape p) q ≡ None
+pub no_region : (p : Program) (t : Tables) (rs : List Row) (q : Path) → HasRows p t rs → slice_get rs q.region ≡ None → place_of (region_shape p) q ≡ None
 no_region p t rs q l e = ap (λ o. o >>= λ sh. inner_place sh q.steps) (region_none p t rs q.region l e)
 
-pub missing : (p : Program) (t : Tables) (rs : List Row) (q : Path) (y : Row) → IsLayout p t rs → slice_get rs q.region ≡ Some y → ((n : ℕ) (sh : Shape) → AreTables p t → Reach p (suc n) t → shape_within p (suc n) y.kind ≡ Some sh → IsSmall sh → None ≡ offset_of (inner_place sh q.steps))
+pub missing : (p : Program) (t : Tables) (rs : List Row) (q : Path) (y : Row) → HasRows p t rs → slice_get rs q.region ≡ Some y → ((n : ℕ) (sh : Shape) → AreTables p t → Reach p (suc n) t → shape_within p (suc n) y.kind ≡ Some sh → IsSmall sh → None ≡ offset_of (inner_place sh q.steps))
     → place_of (region_shape p) q ≡ None
 missing p t rs q y l e f =
     let h = region_shaped p t rs q.region y l e in
     ap (λ o. o >>= λ sh. inner_place sh q.steps) h.1 ∙ no_offset (inner_place h.0.shape q.steps) (f 64 h.0.shape l.tables l.reach h.0.unfolds h.0.small)
 
-pub placed : (p : Program) (t : Tables) (rs : List Row) (q : Path) (y : Row) (n : ℕ) → IsLayout p t rs → slice_get rs q.region ≡ Some y → ((m : ℕ) (sh : Shape) → AreTables p t → Reach p (suc m) t → shape_within p (suc m) y.kind ≡ Some sh → IsSmall sh → Some n ≡ offset_of (inner_place sh q.steps))
+pub placed : (p : Program) (t : Tables) (rs : List Row) (q : Path) (y : Row) (n : ℕ) → HasRows p t rs → slice_get rs q.region ≡ Some y → ((m : ℕ) (sh : Shape) → AreTables p t → Reach p (suc m) t → shape_within p (suc m) y.kind ≡ Some sh → IsSmall sh → Some n ≡ offset_of (inner_place sh q.steps))
     → IsPlace p q (record { region = q.region; offset = n })
 placed p t rs q y n l e f =
     let h = region_shaped p t rs q.region y l e in
@@ -102,13 +105,13 @@ placed p t rs q y n l e f =
 
 -- ---- paths
 
-pub nothing_there : (p : Program) (t : Tables) (rs : List Row) (at : At) → IsLayout p t rs → slice_get rs at.region ≡ None → (q : Path) → plain.Begins p at q → ⊥
+pub nothing_there : (p : Program) (t : Tables) (rs : List Row) (at : At) → HasRows p t rs → slice_get rs at.region ≡ None → (q : Path) → plain.Begins p at q → ⊥
 nothing_there p t rs at l e q b =
     let n = no_region p t rs q l (ap (slice_get rs) (sym b.is.region) ∙ e) in
     let i = b.is.is in
     cc
 
-pub nothing_begins : (p : Program) (t : Tables) (rs : List Row) (at : At) (y : Row) → IsLayout p t rs → slice_get rs at.region ≡ Some y → ((sh : Shape) → AreTables p t → Reach p 65 t → shape_within p 65 y.kind ≡ Some sh → IsSmall sh → IsWay sh at.offset None) → (q : Path) → plain.Begins p at q → ⊥
+pub nothing_begins : (p : Program) (t : Tables) (rs : List Row) (at : At) (y : Row) → HasRows p t rs → slice_get rs at.region ≡ Some y → ((sh : Shape) → AreTables p t → Reach p 65 t → shape_within p 65 y.kind ≡ Some sh → IsSmall sh → IsWay sh at.offset None) → (q : Path) → plain.Begins p at q → ⊥
 nothing_begins p t rs at y l e f q b =
     let h = region_shaped p t rs at.region y l e in
     let w = f h.0.shape l.tables l.reach h.0.unfolds h.0.small in
@@ -116,7 +119,7 @@ nothing_begins p t rs at y l e f q b =
     let there : place_of (region_shape p) q ≡ inner_place h.0.shape q.steps = ap (λ o. o >>= λ sh. inner_place sh q.steps) own in
     w q.steps (record { place = b.is.place; leads = sym there ∙ b.is.is; own = b.own; at = sym b.is.offset })
 
-pub begins_there : (p : Program) (t : Tables) (rs : List Row) (at : At) (y : Row) (ss : List Step) → IsLayout p t rs → slice_get rs at.region ≡ Some y → ((sh : Shape) → AreTables p t → Reach p 65 t → shape_within p 65 y.kind ≡ Some sh → IsSmall sh → IsWay sh at.offset (Some ss)) → plain.Begins p at (record { region = at.region; steps = ss })
+pub begins_there : (p : Program) (t : Tables) (rs : List Row) (at : At) (y : Row) (ss : List Step) → HasRows p t rs → slice_get rs at.region ≡ Some y → ((sh : Shape) → AreTables p t → Reach p 65 t → shape_within p 65 y.kind ≡ Some sh → IsSmall sh → IsWay sh at.offset (Some ss)) → plain.Begins p at (record { region = at.region; steps = ss })
 begins_there p t rs at y ss l e f =
     let h = region_shaped p t rs at.region y l e in
     let w : Begins h.0.shape at.offset ss = f h.0.shape l.tables l.reach h.0.unfolds h.0.small in

@@ -91,11 +91,11 @@ fn regions_of(
 }
 
 impl Layout {
-    /// The layout of a program whose regions have types that unfold, to fewer than 2^32 bytes each. The tables take
-    /// time and memory linear in the variables that its classes have, with those of their bases; these are listed by `st_initial`,
-    /// which seeks each base by name among all classes.
+    /// The layout of a program. What it tells of regions it tells of a program whose regions have types that unfold, to fewer
+    /// than 2^32 bytes each, as each does that is accepted. The tables take time and memory linear in the variables that its
+    /// classes have, with those of their bases; these are listed by `st_initial`, which seeks each base by name among all
+    /// classes.
     pub fn build(alloc: Global, p: &Program) -> Result<Layout, NoMemory>
-        requires { RegionsHaveShapes (program_of p.now) }
         ensures { IfOk result (λ layout. layout ≡ p.now) }
     {
         let tables = tables_of(alloc, p)?;
@@ -109,8 +109,7 @@ impl Layout {
 
     /// How many bytes a region has, by the table of sizes.
     pub fn bytes_of(&self, region: u32) -> u32
-        requires { region < length self.now.regions }
-        ensures { IsSizeOf (program_of self.now) region result }
+        ensures { RegionsHaveShapes (program_of self.now) → region < length self.now.regions → IsSizeOf (program_of self.now) region result }
     {
         match self.regions.get(region as usize) {
             Some(row) => row.size,
@@ -120,7 +119,7 @@ impl Layout {
 
     /// Where the value lies to which a path leads. None where the program has no such path.
     pub fn place_of(&self, path: &Path) -> Option<At>
-        ensures { MatchOption result (places.place_of (region_shape (program_of self.now)) path.now ≡ None) (λ at. IsPlace (program_of self.now) path.now at) }
+        ensures { RegionsHaveShapes (program_of self.now) → MatchOption result (places.place_of (region_shape (program_of self.now)) path.now ≡ None) (λ at. IsPlace (program_of self.now) path.now at) }
     {
         let region = self.regions.get(path.region as usize)?;
         let offset = place(&self.tables, &region.kind, path.steps.as_slice())?;
@@ -134,7 +133,7 @@ impl Layout {
     /// nothing does. It goes down the types, so it takes time by the depth of the path, and by the fields of a type as their
     /// logarithm.
     pub fn path_of(&self, alloc: Global, at: At) -> Result<Option<Path>, NoMemory>
-        ensures { IfOk result (λ o. MatchOption o ((q : Path) → Begins (program_of self.now) at q → ⊥) (λ q. Begins (program_of self.now) at q)) }
+        ensures { RegionsHaveShapes (program_of self.now) → IfOk result (λ o. MatchOption o ((q : Path) → Begins (program_of self.now) at q → ⊥) (λ q. Begins (program_of self.now) at q)) }
     {
         let Some(region) = self.regions.get(at.region as usize) else {
             return Ok(None);
@@ -150,16 +149,14 @@ impl Layout {
 
     /// How many bytes a value of a type has, by the table of sizes.
     pub fn size_of(&self, kind: &StType) -> u32
-        requires { HasShape (program_of self.now) kind.now }
-        ensures { (sh : Shape) → Unfolds (program_of self.now) kind.now sh → result ≡ size sh }
+        ensures { HasShape (program_of self.now) kind.now → (sh : Shape) → Unfolds (program_of self.now) kind.now sh → result ≡ size sh }
     {
         measure(&self.tables, kind).size
     }
 
     /// To which multiples a value of a type is aligned, by the table of sizes.
     pub fn alignment_of(&self, kind: &StType) -> u32
-        requires { HasShape (program_of self.now) kind.now }
-        ensures { (sh : Shape) → Unfolds (program_of self.now) kind.now sh → result ≡ alignment sh }
+        ensures { HasShape (program_of self.now) kind.now → (sh : Shape) → Unfolds (program_of self.now) kind.now sh → result ≡ alignment sh }
     {
         measure(&self.tables, kind).alignment
     }
@@ -167,8 +164,7 @@ impl Layout {
     /// How many bytes from the beginning a field of a structure or an instance lies, and its type. None where there is no
     /// such field.
     pub fn field_of<'a>(&'a self, kind: &'a StType, field: u32) -> Option<(u32, &'a StType)>
-        requires { HasShape (program_of self.now) kind.now }
-        ensures { (sh : Shape) → Unfolds (program_of self.now) kind.now sh → IsPart (program_of self.now) (told result) (part_place sh (step.Field field)) }
+        ensures { HasShape (program_of self.now) kind.now → (sh : Shape) → Unfolds (program_of self.now) kind.now sh → IsPart (program_of self.now) (told result) (part_place sh (step.Field field)) }
     {
         part(&self.tables, kind, &Step::Field(field))
     }

@@ -7,7 +7,7 @@ use Rattle.mem_layout.proofs.LayoutLaws.{parted}
 use Rattle.mem_layout.proofs.layout.Layout.field_of.Goals as goal
 
 pub returns : goal.returns
-returns c = λ sh u.
+returns c = λ has sh u.
     let l = subst (λ q. IsLayout (program_of q) c.self.inside.tables c.self.inside.regions) c.self.view_is c.self.invariant in
     let p = program_of c.args.self.now in
-    parted p c.self.inside.tables c.self.inside.regions c.args.kind.now (step.Field c.args.field) (told c.part.result) l c.requires (λ n s. c.part.ensures p n s) sh u
+    parted p c.self.inside.tables c.self.inside.regions c.args.kind.now (step.Field c.args.field) (told c.part.result) l has (λ n s. c.part.ensures p n s) sh u

@@ -1,0 +1,8 @@
+//! The variables of sections and the declarations of a unit, one by one in the order of the text.
+#![tactic(auto)]
+
+mod listed;
+mod written;
+
+pub use listed::{Declared, list_declarations};
+pub use written::{WrittenName, item_line, written_members, written_names};
