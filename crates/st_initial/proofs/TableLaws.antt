@@ -1,16 +1,11 @@
 -- Tables of the variables that declarations have.
-use Rattle.std.proofs.Common.{◌≡◌, ◌≤◌, ◌<◌, ℕ, zero, suc, ◌+◌, ◌-◌, List, [], ◌∷◌, ◌++◌, length, get_or, Option, Some, None, refl, sym, ap, ◌∙◌, subst, arith, inl, inr, ◌⊎◌}
-use Rattle.std.specs.Prelude.{slice_get, option_and_then, option_map, reverse}
-use Rattle.std.proofs.lemmas.Option.{slice_get_past, slice_get_read, slice_get-map}
+use Rattle.std.proofs.Common.{◌≡◌, ◌≤◌, ◌<◌, ℕ, zero, suc, ◌+◌, ◌-◌, List, [], ◌∷◌, ◌++◌, length, get_or, Some, None, refl, sym, ap, ◌∙◌, subst, arith, inl, inr, ◌⊎◌}
+use Rattle.std.specs.Prelude.{slice_get, reverse}
+use Rattle.std.proofs.lemmas.Option.{slice_get_past, slice_get_read}
 use Rattle.std.proofs.lemmas.List.{length-append, length-map}
 use Rattle.st_tree.specs.declared.program.Program.{Program as CheckedProgram}
-use Rattle.st_values.specs.Program.{Variable, Program, class_at, chain_of, own_variables, class_variables}
-use Rattle.st_values.specs.Shape.{fields_of}
-use Rattle.st_tree.specs.declared.declaration.ClassDecl.{ClassDecl}
-use Rattle.st_tree.specs.declared.declaration.InterfaceDecl.{InterfaceDecl}
-use Rattle.st_tree.specs.declared.declaration.ProgramDecl.{ProgramDecl}
-use Rattle.st_tree.specs.declared.program.Note.{Note}
-use Rattle.st_values.specs.View.{program_of, classes_from, programs_from, type_entry}
+use Rattle.st_values.specs.Program.{Variable, own_variables, class_variables}
+use Rattle.st_values.specs.View.{program_of, type_entry}
 use Rattle.st_initial.specs.declared.variables.Variable as held
 use Rattle.st_initial.specs.Variables.{variables_of, fields_at}
 use Rattle.st_initial.specs.Members.{items_at, list_at}
@@ -54,6 +49,10 @@ one_list all n of vs f e =
     by k h (inr p) =
         let q : k ≡ length all = p ∙ sym f.long in
         ap (λ j. list_at (all ++ vs ∷ []) j) q ∙ ap (λ o. variables_of (items_at o)) (at_end all vs) ∙ e ∙ ap of (sym p)
+
+-- the same where the list is the one of a number that is equal
+pub next_list : (all new : List (List held.Variable)) (n k : ℕ) (of : ℕ → List Variable) (vs ws : List held.Variable) → FirstLists all n of → k ≡ n → variables_of ws ≡ of k → vs ≡ ws → new ≡ all ++ vs ∷ [] → FirstLists new (n + 1) of
+next_list all new n k of vs ws f e h q p = subst (λ (xs : List (List held.Variable)). FirstLists xs (n + 1) of) (sym p) (one_list all n of vs f (ap variables_of q ∙ h ∙ ap of e))
 
 -- and all of them where there are no more
 pub all_lists : (all : List (List held.Variable)) (n : ℕ) (of : ℕ → List Variable) → FirstLists all n of → ((k : ℕ) → n ≤ k → of k ≡ []) → (k : ℕ) → list_at all k ≡ of k

@@ -1,12 +1,10 @@
 -- The variables that classes and structures have.
-use Rattle.std.proofs.Common.{◌≡◌, ◌≤◌, ◌<◌, ℕ, zero, suc, ◌+◌, ◌-◌, Bool, true, false, List, [], ◌∷◌, ◌++◌, length, map, reverse, get_or, drop, Option, Some, None, refl, sym, ap, ◌∙◌, subst, arith, drop-cons}
-use Rattle.std.specs.Prelude.{if◌then◌else◌, ◌||◌, nat_eq, filter, option_map, option_and_then, slice_get}
+use Rattle.std.proofs.Common.{◌≡◌, ◌≤◌, ◌<◌, ℕ, zero, suc, ◌+◌, ◌-◌, true, false, List, [], ◌∷◌, ◌++◌, length, reverse, get_or, drop, Option, Some, None, refl, sym, ap, ◌∙◌, arith, drop-cons}
+use Rattle.std.specs.Prelude.{if◌then◌else◌, option_map, option_and_then, slice_get}
 use Rattle.std.proofs.lemmas.List.{append-nil, append_assoc, reverse-append}
 use Rattle.std.proofs.lemmas.List.Elements.{filter-append}
-use Rattle.std.proofs.lemmas.Option.{slice_get-map, slice_get_past, slice_get_within}
-use Rattle.plc_text.specs.Words.{same}
+use Rattle.std.proofs.lemmas.Option.{slice_get-map}
 use Rattle.st_tree.specs.declared.declaration.ClassDecl.{ClassDecl}
-use Rattle.st_tree.specs.declared.declaration.InterfaceDecl.{InterfaceDecl}
 use Rattle.st_tree.specs.declared.declaration.Item.{Item}
 use Rattle.st_tree.specs.declared.declaration.ProgramDecl.{ProgramDecl}
 use Rattle.st_tree.specs.declared.declaration.Section.{Section}
@@ -18,13 +16,11 @@ use Rattle.st_tree.specs.declared.name.Name.{Name}
 use Rattle.st_tree.specs.declared.program.Note.{Note}
 use Rattle.st_tree.specs.declared.program.Program.{Program as CheckedProgram}
 use Rattle.st_rules.specs.Modifiers.{is_constant}
-use Rattle.st_rules.specs.Chains.{is_among, climb}
-use Rattle.st_rules.specs.Classes.{base_of, chain}
-use Rattle.st_rules.specs.Named.{first_place}
+use Rattle.st_rules.specs.Classes.{chain}
 use Rattle.st_rules.proofs.ListLaws.{drop-at, drop-end}
-use Rattle.st_values.specs.Program.{Variable, Class, Program, class_at, chain_of, own_of, own_variables, class_variables}
+use Rattle.st_values.specs.Program.{Variable, Program, class_at, own_of, own_variables}
 use Rattle.st_values.specs.Shape.{fields_of}
-use Rattle.st_values.specs.View.{kind_of, initial_in, named_variables, items_in, sorted_items, variables_in, is_kept, those, sections_in, class_of, classes_from, programs_from, type_entry, program_of}
+use Rattle.st_values.specs.View.{kind_of, initial_in, named_variables, items_in, sorted_items, variables_in, is_kept, those, sections_in, programs_from, type_entry, program_of}
 use Rattle.program_tables.proofs.ClassLaws.{class_is_there, program_at}
 use Rattle.st_initial.specs.Variables.{or_none, fields_at}
 use Rattle.st_initial.specs.Private.Kept.{kept_in}

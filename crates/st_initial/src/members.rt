@@ -39,7 +39,6 @@ fn count(program: &Program) -> Option<usize>
     program.classes.len().checked_add(program.programs.len())
 }
 
-#[tactic(auto, using(crate::proofs::TableLaws::no_lists, crate::proofs::TableLaws::one_list))]
 fn classes(alloc: Global, program: &Program) -> Result<Items<Items<Variable<'_>>>, NoMemory>
     ensures each { IfOk result (λ all. (c : ℕ) → list_at all c ≡ class_variables (program_of program.now) c) }
     ensures all { IfOk result (λ all. length (program_of program.now).classes ≤ length all) }

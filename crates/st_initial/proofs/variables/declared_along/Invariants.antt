@@ -1,4 +1,4 @@
-use Rattle.std.proofs.Common.{ℕ, ◌≡◌, ◌≤◌, reverse, drop, length}
+use Rattle.std.proofs.Common.{◌≡◌, ◌≤◌, reverse, drop, length}
 use Rattle.st_values.specs.Program.{own_variables}
 use Rattle.st_values.specs.View.{program_of}
 use Rattle.st_initial.specs.Variables.{variables_of}
