@@ -1,5 +1,5 @@
 -- What lists of initial values give.
-use Rattle.std.proofs.Common.{◌≡◌, ◌≤◌, ◌<◌, ℕ, zero, suc, ◌+◌, ◌-◌, ◌^◌, Bool, true, false, List, [], ◌∷◌, ◌++◌, length, map, get_or, take, drop, Option, Some, None, refl, sym, ap, ◌∙◌, subst, arith, append_assoc, append-nil}
+use Rattle.std.proofs.Common.{◌≡◌, ◌≤◌, ◌<◌, ℕ, zero, suc, ◌+◌, ◌-◌, true, false, List, [], ◌∷◌, ◌++◌, length, get_or, take, drop, Some, None, refl, sym, ap, ◌∙◌, arith, append_assoc, append-nil}
 use Rattle.std.specs.Borrow.{Bor}
 use Rattle.std.specs.Prelude.{if◌then◌else◌, replicate}
 use Rattle.std.proofs.lemmas.List.{take-append-le, length-map}
@@ -9,7 +9,6 @@ use Rattle.st_tree.specs.declared.initial.Init.{Init}
 use Rattle.st_tree.specs.declared.initial.Part.{Part as CodePart}
 use Rattle.st_tree.specs.declared.program.Note.{Note}
 use Rattle.st_tree.specs.Initial.{Initial, Part, One, Repeated, Parts, part_then, initial_of, part_of, parts_of, field_of, fields_of, field_of-name, field_of-value}
-use Rattle.st_tree.specs.Number.{number_of}
 use Rattle.st_rules.proofs.ListLaws.{drop-at, drop-end, take-end}
 use Rattle.st_values.specs.Initial.{given_for, listed}
 use Rattle.st_initial.specs.Given.{inits_of}

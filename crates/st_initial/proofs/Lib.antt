@@ -1,5 +1,4 @@
 pub mod VariableLaws
-pub mod ChainLaws
 pub mod GivenLaws
 pub mod TableLaws
 pub mod NumberLaws

@@ -1,6 +1,6 @@
 -- The numbers of a type are those of its initial value.
-use Rattle.std.proofs.Common.{◌≡◌, ◌≤◌, ◌<◌, ℕ, zero, suc, ◌+◌, ◌-◌, ℤ, pos, List, [], ◌∷◌, ◌++◌, length, take, drop, get_or, Option, Some, None, refl, sym, ap, ap₂, ◌∙◌, subst, arith}
-use Rattle.std.specs.Prelude.{slice_get, option_and_then, option_map, ◌+ℤ◌}
+use Rattle.std.proofs.Common.{◌≡◌, ◌<◌, ℕ, zero, suc, ◌+◌, ℤ, pos, List, [], ◌∷◌, ◌++◌, take, Option, Some, None, refl, sym, ap, ap₂, ◌∙◌, arith}
+use Rattle.std.specs.Prelude.{slice_get, option_and_then, ◌+ℤ◌}
 use Rattle.std.proofs.lemmas.Int.{ints}
 use Rattle.st_types.specs.declared.st_type.StType.{StType, out-StType}
 use Rattle.st_types.specs.declared.st_type.StType.TheOpen.{StType-F}
@@ -8,10 +8,10 @@ use Rattle.st_tree.specs.declared.path.Step.TheVariants as step
 use Rattle.st_tree.specs.declared.program.Note.{Note}
 use Rattle.st_tree.specs.Initial.{Initial, FieldInits}
 use Rattle.st_rules.specs.Chains.{◌or_else◌}
-use Rattle.st_values.specs.Initial.{number_given, list_given, fields_given, given_for, elements, init, inits}
-use Rattle.st_values.specs.Program.{Variable, TypeEntry, Program, class_at, class_variables}
+use Rattle.st_values.specs.Initial.{list_given, fields_given, given_for, elements, init, inits}
+use Rattle.st_values.specs.Program.{Variable, Program, class_at, class_variables}
 use Rattle.st_values.specs.Shape.{Shape, Elementary, Enumeration, Reference, Interface, Array, Structure, Instance, Fields, no_fields, field_then, extent, values_of, fields_of, fields_by, simple_shape, shape_by, shape_within}
-use Rattle.st_values.specs.Value.{Path, ◌>>=◌}
+use Rattle.st_values.specs.Value.{Path}
 use Rattle.st_values.proofs.ValueLaws.{then_some}
 use Rattle.st_values.proofs.ShapeLaws.{mapped_some}
 use Rattle.st_initial.specs.RegionNumbers.{further, numbers_in, elements_in, members_in}

@@ -1,20 +1,16 @@
 -- Tables of the variables that declarations have.
-use Rattle.std.proofs.Common.{◌≡◌, ◌≤◌, ◌<◌, ℕ, zero, suc, ◌+◌, ◌-◌, List, [], ◌∷◌, ◌++◌, length, get_or, Option, Some, None, refl, sym, ap, ◌∙◌, subst, arith, inl, inr, ◌⊎◌}
-use Rattle.std.specs.Prelude.{slice_get, option_and_then, option_map, reverse}
-use Rattle.std.proofs.lemmas.Option.{slice_get_past, slice_get_read, slice_get-map}
+use Rattle.std.proofs.Common.{◌≡◌, ◌≤◌, ◌<◌, ℕ, zero, suc, ◌+◌, ◌-◌, List, [], ◌∷◌, ◌++◌, length, get_or, Some, None, refl, sym, ap, ◌∙◌, subst, arith, inl, inr, ◌⊎◌}
+use Rattle.std.specs.Prelude.{slice_get, reverse}
+use Rattle.std.proofs.lemmas.Option.{slice_get_past, slice_get_read}
 use Rattle.std.proofs.lemmas.List.{length-append, length-map}
 use Rattle.st_tree.specs.declared.program.Program.{Program as CheckedProgram}
-use Rattle.st_values.specs.Program.{Variable, Program, class_at, chain_of, own_variables, class_variables}
-use Rattle.st_values.specs.Shape.{fields_of}
-use Rattle.st_tree.specs.declared.declaration.ClassDecl.{ClassDecl}
-use Rattle.st_tree.specs.declared.declaration.InterfaceDecl.{InterfaceDecl}
-use Rattle.st_tree.specs.declared.declaration.ProgramDecl.{ProgramDecl}
-use Rattle.st_tree.specs.declared.program.Note.{Note}
-use Rattle.st_values.specs.View.{program_of, classes_from, programs_from, type_entry}
+use Rattle.st_values.specs.Program.{Variable, own_variables, class_variables}
+use Rattle.st_values.specs.View.{program_of, type_entry}
 use Rattle.st_initial.specs.declared.variables.Variable as held
 use Rattle.st_initial.specs.Variables.{variables_of, fields_at}
 use Rattle.st_initial.specs.Members.{items_at, list_at}
-use Rattle.st_initial.proofs.VariableLaws.{front_get, back_get, fields_there, program_climbs}
+use Rattle.program_tables.proofs.ClassLaws.{only, program_climbs}
+use Rattle.st_initial.proofs.VariableLaws.{fields_there}
 
 -- these are the first lists
 pub record FirstLists (all : List (List held.Variable)) (n : ℕ) (of : ℕ → List Variable) : Type 0 where
@@ -54,6 +50,10 @@ one_list all n of vs f e =
         let q : k ≡ length all = p ∙ sym f.long in
         ap (λ j. list_at (all ++ vs ∷ []) j) q ∙ ap (λ o. variables_of (items_at o)) (at_end all vs) ∙ e ∙ ap of (sym p)
 
+-- the same where the list is the one of a number that is equal
+pub next_list : (all new : List (List held.Variable)) (n k : ℕ) (of : ℕ → List Variable) (vs ws : List held.Variable) → FirstLists all n of → k ≡ n → variables_of ws ≡ of k → vs ≡ ws → new ≡ all ++ vs ∷ [] → FirstLists new (n + 1) of
+next_list all new n k of vs ws f e h q p = subst (λ (xs : List (List held.Variable)). FirstLists xs (n + 1) of) (sym p) (one_list all n of vs f (ap variables_of q ∙ h ∙ ap of e))
+
 -- and all of them where there are no more
 pub all_lists : (all : List (List held.Variable)) (n : ℕ) (of : ℕ → List Variable) → FirstLists all n of → ((k : ℕ) → n ≤ k → of k ≡ []) → (k : ℕ) → list_at all k ≡ of k
 all_lists all n of f none k = by (split k n)
@@ -77,24 +77,9 @@ module _ (p : CheckedProgram) where
   no_variables_past k h =
       let a : length p.classes ≤ k = omega arith in
       let b : length p.programs ≤ k - length p.classes = omega arith in
-      ap (λ cs. own_variables (program_of p) (reverse cs)) (program_climbs p k None a (slice_get_past p.programs (k - length p.classes) b))
+      ap (λ cs. own_variables (program_of p) (reverse cs)) (program_climbs p k a ∙ ap (only k) (slice_get_past p.programs (k - length p.classes) b))
 
 -- ---- how many there are
-
-count_from : (cs : List (ClassDecl Note)) (is : List (InterfaceDecl Note)) (c : ℕ) (ds : List (ClassDecl Note)) → length (classes_from cs is c ds) ≡ length ds
-count_from cs is c [] = refl
-count_from cs is c (d ∷ ds) = ap suc (count_from cs is (suc c) ds)
-
-count_programs : (c : ℕ) (ds : List (ProgramDecl Note)) → length (programs_from c ds) ≡ length ds
-count_programs c [] = refl
-count_programs c (d ∷ ds) = ap suc (count_programs (suc c) ds)
-
-pub count_classes : (p : CheckedProgram) → length (program_of p).classes ≡ length p.classes + length p.programs
-count_classes p =
-    let a = length-append (classes_from p.classes p.interfaces 0 p.classes) (programs_from (length p.classes) p.programs) in
-    let b = count_from p.classes p.interfaces 0 p.classes in
-    let c = count_programs (length p.classes) p.programs in
-    omega (arith, a, b, c)
 
 pub count_types : (p : CheckedProgram) → length (program_of p).types ≡ length p.types
 count_types p = length-map p.types type_entry

@@ -1,5 +1,5 @@
 -- Steps of the walk over a type.
-use Rattle.std.proofs.Common.{◌≡◌, ◌≤◌, ◌<◌, ℕ, zero, suc, ◌+◌, ◌-◌, ℤ, pos, List, [], ◌∷◌, ◌++◌, length, map, take, drop, get_or, Option, Some, None, Result, Ok, Err, OnOk, refl, sym, ap, ap₂, ◌∙◌, subst, arith, append_assoc, append-nil}
+use Rattle.std.proofs.Common.{◌≡◌, ◌≤◌, ◌<◌, ℕ, zero, suc, ◌+◌, ◌-◌, ℤ, pos, List, [], ◌∷◌, ◌++◌, length, take, drop, get_or, Option, Some, None, Result, Ok, Err, OnOk, refl, sym, ap, ap₂, ◌∙◌, arith, append_assoc, append-nil}
 use Rattle.std.specs.Borrow.{Bor}
 use Rattle.std.specs.Option.{option_copied}
 use Rattle.std.specs.Prelude.{slice_get, option_map, ◌+ℤ◌}
@@ -17,18 +17,18 @@ use Rattle.st_tree.specs.Initial.{Initial, FieldInits, initial_of}
 use Rattle.st_rules.specs.Chains.{◌or_else◌}
 use Rattle.st_rules.proofs.ListLaws.{drop-at, drop-end}
 use Rattle.st_values.specs.Initial.{number_given, list_given, fields_given, given_for, init, init_of}
-use Rattle.st_values.specs.Program.{Variable, Program, class_variables}
+use Rattle.st_values.specs.Program.{Program}
 use Rattle.st_values.specs.Shape.{Shape, extent, shape_of, region_shape}
 use Rattle.st_values.specs.View.{region_of, program_of}
 use Rattle.st_values.specs.Value.{Path, ◌>>=◌}
 use Rattle.st_initial.specs.declared.members.Members as code
 use Rattle.st_initial.specs.declared.variables.Variable as held
 use Rattle.st_initial.specs.RegionNumbers.{further, numbers_in, numbers_of_region, initial_numbers}
-use Rattle.st_initial.specs.Variables.{variable_of, variables_of, fields_at}
+use Rattle.st_initial.specs.Variables.{variables_of}
 use Rattle.st_initial.specs.Given.{inits_of}
 use Rattle.st_initial.proofs.NumberLaws.{types_agree}
-use Rattle.st_initial.specs.Private.Numbers.{Numbers, variable_numbers, element_numbers, level_numbers, simple_numbers, type_numbers}
-use Rattle.st_initial.specs.Members.{items_at, list_at, Holds}
+use Rattle.st_initial.specs.Private.Numbers.{variable_numbers, element_numbers, level_numbers, simple_numbers, type_numbers}
+use Rattle.st_initial.specs.Members.{list_at, Holds}
 
 -- what an answer that is no error says
 pub then_ok : {T E A B : Type 0} (r : Result T E) → OnOk r A → (A → B) → OnOk r B

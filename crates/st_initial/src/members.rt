@@ -8,6 +8,7 @@ ghost use Rattle.st_initial.specs.Members.{Holds, list_at};
 
 use crate::variables::{self, Variable};
 use plc_text::{Items, NoMemory};
+use program_tables::ProgramTables;
 use st_tree::Program;
 use std::alloc::Global;
 
@@ -38,7 +39,6 @@ fn count(program: &Program) -> Option<usize>
     program.classes.len().checked_add(program.programs.len())
 }
 
-#[tactic(auto, using(crate::proofs::TableLaws::no_lists, crate::proofs::TableLaws::one_list))]
 fn classes(alloc: Global, program: &Program) -> Result<Items<Items<Variable<'_>>>, NoMemory>
     ensures each { IfOk result (λ all. (c : ℕ) → list_at all c ≡ class_variables (program_of program.now) c) }
     ensures all { IfOk result (λ all. length (program_of program.now).classes ≤ length all) }
@@ -46,9 +46,11 @@ fn classes(alloc: Global, program: &Program) -> Result<Items<Items<Variable<'_>>
     let Some(end) = count(program) else {
         return Err(NoMemory);
     };
+    let tables = ProgramTables::build(alloc, program)?;
     let mut all = Items::new(alloc);
     for c in 0..end {
-        let variables = variables::class_variables(alloc, program, c)?;
+        let class = variables::narrowed(c)?;
+        let variables = variables::instance_variables(alloc, &tables, program, class)?;
         all.push(Items::from_vec(variables))?;
     }
     Ok(all)

@@ -1,19 +1,18 @@
 //! The variables that classes and structures have, in the order of their numbers.
 
-ghost use Rattle.std.specs.Prelude.{◌≡◌, [], ◌∷◌, ◌++◌, IfOk, OnOk};
-ghost use Rattle.st_rules.specs.Chains.{is_among};
-ghost use Rattle.st_rules.specs.Classes as rules;
-ghost use Rattle.st_values.specs.Program.{class_at, chain_of, own_of, class_variables};
+ghost use Rattle.std.specs.Prelude.{◌≡◌, ◌++◌, reverse, IfOk, OnOk};
+ghost use Rattle.st_values.specs.Program.{class_at, own_of, own_variables, class_variables};
 ghost use Rattle.st_values.specs.View as view;
 ghost use Rattle.st_values.specs.Shape.{fields_of};
 ghost use Rattle.st_initial.specs.Variables.{variables_of, or_none, fields_at};
 ghost use Rattle.st_initial.specs.Private.Kept.{kept_in};
 
 use plc_text::{NoMemory, Text};
+use program_tables::ProgramTables;
 use st_rules::is_constant;
 use st_tree::{
-    ClassDecl, FieldGroup, Init, Item, Member, Note, Program, Section, SectionSort, SimpleSpec,
-    TypeBody, TypeDecl, TypeSpec,
+    FieldGroup, Init, Item, Member, Note, Program, Section, SectionSort, SimpleSpec, TypeBody,
+    TypeDecl, TypeSpec,
 };
 use st_types::StType;
 use std::alloc::Global;
@@ -36,7 +35,7 @@ pub struct Variable<'p> {
 }
 
 /// The type that is written, as it is noted at its first word.
-fn kind_of(spec: &TypeSpec<Note>) -> &StType
+pub fn kind_of(spec: &TypeSpec<Note>) -> &StType
     ensures { result.now ≡ view.kind_of spec.now }
 {
     match spec.arrays.as_slice() {
@@ -75,8 +74,8 @@ fn push_item<'p>(
     Ok(())
 }
 
-/// Adds the variables of items.
-fn push_items<'p>(
+/// Adds the variables of the items of a section of this sort.
+pub fn push_items<'p>(
     out: &mut Vec<Variable<'p>>,
     sort: SectionSort,
     items: &'p [Item<Note>],
@@ -218,80 +217,45 @@ pub fn structure_fields(
     Ok(out)
 }
 
-/// The class of this name: the first one.
-#[tactic(auto, using(crate::proofs::ChainLaws::sought_first, crate::proofs::ChainLaws::name_found, crate::proofs::ChainLaws::name_next, crate::proofs::ChainLaws::name_missing))]
-fn class_named(classes: &[ClassDecl<Note>], name: &Text) -> Option<usize>
-    ensures { result ≡ rules.class_named classes.now name.now }
-{
-    for (number, class) in classes.iter().enumerate() {
-        if class.name.text == *name {
-            return Some(number);
-        }
-    }
-    None
-}
-
-/// The base of a class, where it is found.
-fn base_of(classes: &[ClassDecl<Note>], class: usize) -> Option<usize>
-    ensures { result ≡ rules.base_of classes.now class }
-{
-    match &classes.get(class)?.base {
-        Some(base) => class_named(classes, &base.text),
-        None => None,
-    }
-}
-
-/// Whether the number is among these.
-fn is_held(number: usize, numbers: &[usize]) -> bool
-    ensures { result ≡ is_among number numbers.now }
-{
-    numbers.iter().any(|n| number == *n)
-}
-
-/// The chain of a class: the class, its base and so on.
-#[tactic(auto, using(crate::proofs::ChainLaws::climb_start, crate::proofs::ChainLaws::climb_step, crate::proofs::ChainLaws::climb_none, crate::proofs::ChainLaws::climb_back, crate::proofs::ChainLaws::climb_end))]
-fn class_chain(
+/// The variables that these classes declare themselves, the last class first.
+fn declared_along<'p>(
     alloc: Global,
-    classes: &[ClassDecl<Note>],
-    class: usize,
-) -> Result<Vec<usize>, NoMemory>
-    ensures { IfOk result (λ chain. chain.items ≡ rules.chain classes.now class) }
+    program: &'p Program,
+    classes: &[u32],
+) -> Result<Vec<Variable<'p>>, NoMemory>
+    ensures { IfOk result (λ variables. variables_of variables.items ≡ own_variables (view.program_of program.now) (reverse classes.now)) }
 {
-    let mut held = Vec::new(alloc);
-    let mut next = Some(class);
-    for _step in 0..classes.len() + 1 {
-        let Some(c) = next else {
-            return Ok(held);
-        };
-        if is_held(c, &held) {
-            return Ok(held);
-        }
-        held.push(c)?;
-        next = base_of(classes, c);
+    let mut out = Vec::new(alloc);
+    let mut left = classes.len();
+    while left > 0 {
+        left -= 1;
+        push_own(&mut out, program, classes[left] as usize)?;
     }
-    Ok(held)
+    Ok(out)
 }
 
-/// A list of one number.
-fn only(alloc: Global, number: usize) -> Result<Vec<usize>, NoMemory>
-    ensures { IfOk result (λ one. one.items ≡ number ∷ []) }
+/// The variables of an instance of a class or a program, those of its bases first, by the tables of the program.
+pub fn instance_variables<'p>(
+    alloc: Global,
+    tables: &ProgramTables,
+    program: &'p Program,
+    class: u32,
+) -> Result<Vec<Variable<'p>>, NoMemory>
+    requires { tables.now ≡ program.now }
+    ensures { IfOk result (λ variables. variables_of variables.items ≡ class_variables (view.program_of program.now) class) }
 {
-    let mut one = Vec::new(alloc);
-    one.push(number)?;
-    Ok(one)
+    let chain = tables.chain(alloc, class)?;
+    let variables = declared_along(alloc, program, &chain)?;
+    Ok(variables)
 }
 
-/// The classes upward from a class or a program.
-fn chain(alloc: Global, program: &Program, class: usize) -> Result<Vec<usize>, NoMemory>
-    ensures { IfOk result (λ chain. chain.items ≡ chain_of (class_at (view.program_of program.now) class)) }
+/// A number of 32 bits.
+pub fn narrowed(number: usize) -> Result<u32, NoMemory>
+    ensures { IfOk result (λ n. n ≡ number) }
 {
-    let classes = program.classes.as_slice();
-    if class < classes.len() {
-        return class_chain(alloc, classes, class);
-    }
-    match program.programs.get(class - classes.len()) {
-        Some(_) => only(alloc, class),
-        None => Ok(Vec::new(alloc)),
+    match u32::try_from(number) {
+        Ok(n) => Ok(n),
+        Err(_) => Err(NoMemory),
     }
 }
 
@@ -303,13 +267,8 @@ pub fn class_variables(
 ) -> Result<Vec<Variable<'_>>, NoMemory>
     ensures { IfOk result (λ variables. variables_of variables.items ≡ class_variables (view.program_of program.now) class) }
 {
-    let chain = chain(alloc, program, class)?;
-    let classes = chain.as_slice();
-    let mut out = Vec::new(alloc);
-    let mut left = classes.len();
-    while left > 0 {
-        left -= 1;
-        push_own(&mut out, program, classes[left])?;
-    }
-    Ok(out)
+    let class = narrowed(class)?;
+    let tables = ProgramTables::build(alloc, program)?;
+    let variables = instance_variables(alloc, &tables, program, class)?;
+    Ok(variables)
 }

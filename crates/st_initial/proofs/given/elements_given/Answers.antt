@@ -1,8 +1,3 @@
-use Rattle.std.proofs.Common.{◌≡◌, ◌≤◌, length, take, drop, min, ap, sym, ◌∙◌, arith}
-use Rattle.std.proofs.lemmas.List.{length-take}
-use Rattle.st_tree.specs.Initial.{parts_of}
-use Rattle.st_values.specs.Initial.{listed}
-use Rattle.st_rules.proofs.ListLaws.{drop-at}
 use Rattle.st_initial.specs.Given.{inits_of}
 use Rattle.st_initial.proofs.GivenLaws.{parts_step, inits_long}
 use Rattle.st_initial.proofs.given.elements_given.Goals as goal

@@ -1,4 +1,4 @@
-use Rattle.std.proofs.Common.{ℕ, ◌≡◌, ◌≤◌, ◌++◌, length}
+use Rattle.std.proofs.Common.{◌≡◌, ◌≤◌, ◌++◌, length}
 use Rattle.std.specs.Prelude.{replicate}
 use Rattle.st_tree.specs.Initial.{initial_of}
 use Rattle.st_initial.specs.Given.{inits_of}

@@ -1,8 +1,14 @@
 use Rattle.std.proofs.Common.{arith}
 use Rattle.st_values.specs.Program.{class_variables}
 use Rattle.st_values.specs.View.{program_of}
-use Rattle.st_initial.proofs.TableLaws.{all_lists, no_variables_past, count_classes}
+use Rattle.program_tables.proofs.ClassLaws.{count_classes}
+use Rattle.st_initial.proofs.TableLaws.{next_list, all_lists, no_variables_past}
 use Rattle.st_initial.proofs.members.classes.Goals as goal
+
+pub loop-c-preserved : goal.loop-c-preserved
+loop-c-preserved c =
+    next_list c.loop-c.all c.push.new.self c.loop-c.c c.in_ok-class.class (class_variables (program_of c.args.program.now)) c.from_vec.result c.in_ok-variables.variables.items c.loop-c.invariant
+    c.in_ok-class.ensures c.in_ok-variables.ensures c.from_vec.ensures c.in_ok-push.ensures.ok
 
 pub returns-clause-each : goal.returns-clause-each
 returns-clause-each c =

@@ -1,9 +1,8 @@
-use Rattle.std.proofs.Common.{◌≡◌, ◌++◌, [], sym, ap, ◌∙◌}
+use Rattle.std.proofs.Common.{sym, ap, ◌∙◌}
 use Rattle.st_tree.specs.Initial.{initial_of}
 use Rattle.st_values.specs.View.{program_of}
 use Rattle.std.specs.Prelude.{option_map}
-use Rattle.st_initial.specs.RegionNumbers.{numbers_of_region}
-use Rattle.st_initial.proofs.WalkLaws.{given_copied, from_nothing, region_starts, no_region, region_there}
+use Rattle.st_initial.proofs.WalkLaws.{given_copied, from_nothing, region_starts, region_there}
 use Rattle.st_initial.proofs.region_numbers.initial.Goals as goal
 
 pub returns-clause-numbers : goal.returns-clause-numbers

@@ -1,8 +1,8 @@
-use Rattle.std.proofs.Common.{ℕ, ◌≡◌, ◌≤◌, reverse, drop, length}
+use Rattle.std.proofs.Common.{◌≡◌, ◌≤◌, reverse, drop, length}
 use Rattle.st_values.specs.Program.{own_variables}
 use Rattle.st_values.specs.View.{program_of}
 use Rattle.st_initial.specs.Variables.{variables_of}
-use Rattle.st_initial.proofs.variables.class_variables.Given as goal
+use Rattle.st_initial.proofs.variables.declared_along.Given as goal
 
 -- those of the classes from this one upward
 abbrev pub invariant-loop-left : goal.invariant-loop-left
