@@ -7,12 +7,8 @@ use Rattle.st_tree.specs.declared.declaration.ProgramDecl.{ProgramDecl}
 use Rattle.st_tree.specs.declared.program.Note.{Note}
 use Rattle.st_tree.specs.declared.program.Program.{Program as CheckedProgram}
 use Rattle.st_values.specs.Program.{class_at}
-use Rattle.st_values.specs.View.{program_of, classes_from, programs_from, interfaces_from}
-use Rattle.st_initial.proofs.VariableLaws.{back_get, within_get, class_is_there}
-
-classes_long : (classes : List (ClassDecl Note)) (interfaces : List (InterfaceDecl Note)) (c : ℕ) (ds : List (ClassDecl Note)) → length (classes_from classes interfaces c ds) ≡ length ds
-classes_long classes interfaces c [] = refl
-classes_long classes interfaces c (d ∷ ds) = ap suc (classes_long classes interfaces (suc c) ds)
+use Rattle.st_values.specs.View.{program_of, programs_from, interfaces_from}
+use Rattle.program_tables.proofs.ClassLaws.{within_get, class_is_there, program_at}
 
 names_of_programs : (c k : ℕ) (ds : List (ProgramDecl Note)) → option_map (λ k. k.name) (slice_get (programs_from c ds) k) ≡ option_map (λ d. d.name.text) (slice_get ds k)
 names_of_programs c k [] = refl
@@ -26,10 +22,7 @@ class_named p c o h e =
 
 pub program_named : (p : CheckedProgram) (c : ℕ) (o : Option (ProgramDecl Note)) → length p.classes ≤ c → slice_get p.programs (c - length p.classes) ≡ o → option_map (λ k. k.name) (class_at (program_of p) c) ≡ option_map (λ d. d.name.text) o
 program_named p c o h e =
-    let l = classes_long p.classes p.interfaces 0 p.classes in
-    ap (option_map (λ k. k.name)) (back_get (classes_from p.classes p.interfaces 0 p.classes) (programs_from (length p.classes) p.programs) c (subst (λ n. n ≤ c) (sym l) h)
-    ∙ ap (λ n. slice_get (programs_from (length p.classes) p.programs) (c - n)) l)
-    ∙ names_of_programs (length p.classes) (c - length p.classes) p.programs ∙ ap (option_map (λ d. d.name.text)) e
+    ap (option_map (λ k. k.name)) (program_at p c h) ∙ names_of_programs (length p.classes) (c - length p.classes) p.programs ∙ ap (option_map (λ d. d.name.text)) e
 
 there : (is : List (InterfaceDecl Note)) (i k : ℕ) (ds : List (InterfaceDecl Note)) → is_some (slice_get (interfaces_from is i ds) k) ≡ is_some (slice_get ds k)
 there is i k [] = refl
