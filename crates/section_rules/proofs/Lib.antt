@@ -1,0 +1,3 @@
+pub mod FarLaws
+pub mod HeldLaws
+pub mod Joined

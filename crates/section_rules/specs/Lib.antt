@@ -1,0 +1,4 @@
+pub mod Addresses
+pub mod Headings
+pub mod Home
+pub mod Variables
