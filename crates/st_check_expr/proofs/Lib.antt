@@ -1,0 +1,11 @@
+pub mod Parts
+pub mod NegateLaws
+pub mod RowSteps
+pub mod WholeLaws
+pub mod AheadSteps
+pub mod AlongSteps
+pub mod ListSteps
+pub mod LoopSteps
+pub mod NodeLaws
+pub mod StepLaws
+pub mod ArmLaws

@@ -1,0 +1,4 @@
+-- The words of private contracts.
+pub mod Along
+pub mod Lists
+pub mod Rows

@@ -1,0 +1,13 @@
+//! The rules of expressions: in one walk the type of an expression, the least rule that it breaks, and its typed tree (IEC
+//! 61131-3:2013, 7.3.2).
+#![tactic(auto)]
+
+mod broken;
+mod expression;
+#[cfg(test)]
+mod tests;
+mod walk;
+
+pub use broken::Broken;
+pub use expression::{check_expr, check_whole};
+pub use walk::{check, check_arguments, check_place};
