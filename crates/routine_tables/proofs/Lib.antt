@@ -1,0 +1,4 @@
+pub mod DeclaredLaws
+pub mod ParameterLaws
+pub mod EntryLaws
+pub mod TableLaws

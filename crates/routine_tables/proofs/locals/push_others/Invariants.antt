@@ -1,0 +1,9 @@
+use Rattle.std.proofs.Common.{◌≡◌, ◌++◌, drop}
+use Rattle.st_values.specs.View as view
+use Rattle.st_initial.specs.Variables.{variables_of}
+use Rattle.routine_tables.proofs.locals.push_others.Given as goal
+
+-- what was added, and what the rest gives, is the whole
+abbrev pub invariant-loop-variable : goal.invariant-loop-variable
+invariant-loop-variable l =
+    (variables_of l.out.items ++ view.those (view.negated view.is_parameter) (variables_of (drop l.variable-index l.variables))) ≡ (variables_of l.initial.out.items ++ view.those (view.negated view.is_parameter) (variables_of l.variables))

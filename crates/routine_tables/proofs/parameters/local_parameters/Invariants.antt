@@ -1,0 +1,10 @@
+use Rattle.std.proofs.Common.{◌≡◌, ◌++◌, drop}
+use Rattle.st_values.specs.View as view
+use Rattle.st_initial.specs.Variables.{variables_of}
+use Rattle.routine_tables.specs.Parameters.{parameters_of}
+use Rattle.routine_tables.proofs.parameters.local_parameters.Given as goal
+
+-- what was added, and what the rest gives, is the whole
+abbrev pub invariant-loop-variable : goal.invariant-loop-variable
+invariant-loop-variable l =
+    (parameters_of l.made ++ view.local_parameters l.next (view.those view.is_parameter (variables_of (drop l.variable-index l.variables)))) ≡ view.local_parameters l.first (view.those view.is_parameter (variables_of l.variables))

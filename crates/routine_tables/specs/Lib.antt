@@ -1,0 +1,3 @@
+pub mod Parameters
+pub mod Tables
+pub mod Private

@@ -1,0 +1,12 @@
+//! The parameters and locals of the routines of a checked program.
+#![tactic(auto)]
+
+mod declared;
+mod entry;
+mod locals;
+mod parameters;
+mod tables;
+
+pub use entry::Entry;
+pub use parameters::{Parameter, Recipient};
+pub use tables::{RoutineTables, routine_tables};
