@@ -1,0 +1,10 @@
+pub mod Views
+pub mod Parts
+pub mod LimitLaws
+pub mod LiteralLaws
+pub mod EndLaws
+pub mod LabelLaws
+pub mod ListLaws
+pub mod ControlLaws
+pub mod AssignLaws
+pub mod NameLaws
