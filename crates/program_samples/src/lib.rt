@@ -1,0 +1,10 @@
+//! Programs that are made by hand, and what the crates below tell of it. There is nothing but tests here: each crate that makes such a
+//! program proves again how each type of tree is dropped.
+#![tactic(auto)]
+
+#[cfg(test)]
+mod cells;
+#[cfg(test)]
+mod sample;
+#[cfg(test)]
+mod tests;
