@@ -93,8 +93,7 @@ fn regions_of(
 impl Layout {
     /// The layout of a program. What it tells of regions it tells of a program whose regions have types that unfold, to fewer
     /// than 2^32 bytes each, as each does that is accepted. The tables take time and memory linear in the variables that its
-    /// classes have, with those of their bases; these are listed by `st_initial`, which seeks each base by name among all
-    /// classes.
+    /// classes have, with those of their bases.
     pub fn build(alloc: Global, p: &Program) -> Result<Layout, NoMemory>
         ensures { IfOk result (λ layout. layout ≡ p.now) }
     {
