@@ -24,7 +24,7 @@ use Rattle.told_laws.proofs.Settled.{names-equal, settled}
 -- ---- one more is told
 
 -- what can be told from what is told so far is so in the unit
-from-below : (decls : List (Decl ℕ)) (a : DeclaredNames) → Sound decls a → TellsNoLess (names_from decls a) (unit_names decls)
+pub from-below : (decls : List (Decl ℕ)) (a : DeclaredNames) → Sound decls a → TellsNoLess (names_from decls a) (unit_names decls)
 from-below decls a s = subst (λ b. TellsNoLess (names_from decls a) b) (settled decls) (next decls a (unit_names decls) s.kinds s.below)
 
 pub changed-is : {X : Type 0} (R : X → X → Type 0) (f : X → X) (d : X) → ((x u : X) → R x u → R d u → R (f x) u) → (i : ℕ) (xs ns us : List X) → Each R xs us → Each R ns us → slice_get ns i ≡ Some d
