@@ -22,6 +22,7 @@ use Rattle.st_rules.specs.Interfaces as rules
 use Rattle.st_rules.specs.Interfaces.{interfaces_named, extended, extends}
 use Rattle.st_rules.proofs.Booleans.{either, true≢false, false≢true, same-tests, or-first, or-second}
 use Rattle.st_rules.proofs.InterfaceLaws.{named_within, extended_within, extends_law}
+use Rattle.program_tables.specs.Interfaces.{is_extended}
 use Rattle.graph_reach.specs.Reach.{ahead_in, reaches, AreEdges, AreReached}
 use Rattle.st_values.specs.Program as plain
 use Rattle.st_values.specs.Program.{Routine, Class, class_at, chain_of, conforming, conforms_as, body_in, named, lookup, conforms}
@@ -358,6 +359,21 @@ module _ (p : CheckedProgram) (t : Tables) (is : AreTables p t) where
   conforms_found c (type.Enumeration n) = nothing_else (type.Enumeration n) (class_at (program_of p) c) (λ k. refl)
   conforms_found c (type.Structure n) = nothing_else (type.Structure n) (class_at (program_of p) c) (λ k. refl)
   conforms_found c k = nothing_else k (class_at (program_of p) c) (λ x. refl)
+
+  abbrev extended_here : ℕ → ℕ → Bool
+  extended_here i j = if nat_lt i (length p.interfaces) then (if nat_lt j (length p.interfaces) then reaches t.reach.items i j else false) else false
+
+  pub extends_found : (i j : ℕ) → found.extends t i j ≡ is_extended p.interfaces i j
+  extends_found i j = ap (λ n. if nat_lt i n then (if nat_lt j n then reaches t.reach.items i j else false) else false) is.interfaces ∙ at (below i (length p.interfaces)) (below j (length p.interfaces))
+    where
+      at : ((i < length p.interfaces) × (nat_lt i (length p.interfaces) ≡ true)) ⊎ ((length p.interfaces ≤ i) × (nat_lt i (length p.interfaces) ≡ false))
+          → ((j < length p.interfaces) × (nat_lt j (length p.interfaces) ≡ true)) ⊎ ((length p.interfaces ≤ j) × (nat_lt j (length p.interfaces) ≡ false))
+          → extended_here i j ≡ is_extended p.interfaces i j
+      at (inl h) (inl k) = ap (λ v. if nat_lt i (length p.interfaces) then (if nat_lt j (length p.interfaces) then v else false) else false) (reaches_is p.interfaces t.reach.items i j is.reach h.0 k.0)
+      at (inl h) (inr k) = ap (λ b. if nat_lt i (length p.interfaces) then (if b then reaches t.reach.items i j else false) else false) k.1
+          ∙ sym (ap (λ b. if nat_lt i (length p.interfaces) then (if b then extends p.interfaces i j else false) else false) k.1)
+      at (inr h) k = ap (λ b. if b then (if nat_lt j (length p.interfaces) then reaches t.reach.items i j else false) else false) h.1
+          ∙ sym (ap (λ b. if b then (if nat_lt j (length p.interfaces) then extends p.interfaces i j else false) else false) h.1)
 
 -- ---- the tables that are made
 

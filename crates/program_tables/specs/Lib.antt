@@ -1,2 +1,3 @@
 pub mod Routine
+pub mod Interfaces
 pub mod Private

@@ -81,7 +81,7 @@ pub fn is_derived(bases: &[Option<u32>], class: u32, other: u32) -> bool
     false
 }
 
-fn leads(reach: &[Row], node: u32, other: u32) -> bool
+pub fn leads(reach: &[Row], node: u32, other: u32) -> bool
     ensures { result ≡ reaches reach.now node other }
 {
     match reach.get(node as usize) {

@@ -6,7 +6,7 @@ ghost use Rattle.program_tables.specs.Private.Found as found;
 
 use crate::bases::{bases_of, implemented};
 use crate::chain::chain_of;
-use crate::climb::{implements, is_derived, nearest_method};
+use crate::climb::{implements, is_derived, leads, nearest_method};
 use crate::graph::reach;
 use crate::places::{
     Places, class_places, interface_places, method_places, place_of, program_places,
@@ -141,6 +141,18 @@ fn conforms_to(tables: &Tables, class: u32, interface: u32) -> bool
         class,
         interface,
     )
+}
+
+pub fn extends(tables: &Tables, interface: u32, other: u32) -> bool
+    ensures { result ≡ found.extends tables.now interface other }
+{
+    if interface as usize >= tables.interfaces {
+        return false;
+    }
+    if other as usize >= tables.interfaces {
+        return false;
+    }
+    leads(&tables.reach, interface, other)
 }
 
 pub fn conforms(tables: &Tables, class: u32, kind: &StType) -> bool

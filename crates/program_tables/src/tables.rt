@@ -3,6 +3,7 @@
 ghost use Rattle.std.specs.Prelude.{◌≡◌, length, option_map, slice_get, IfOk};
 ghost use Rattle.st_values.specs.Program as plain;
 ghost use Rattle.st_values.specs.View.{program_of};
+ghost use Rattle.program_tables.specs.Interfaces.{is_extended};
 ghost use Rattle.program_tables.specs.Routine.{routine_of};
 
 use crate::parts::{self, Tables, tables_of};
@@ -78,6 +79,13 @@ impl ProgramTables {
         ensures { result ≡ plain.conforms (program_of self.now) class kind.now }
     {
         parts::conforms(&self.tables, class, kind)
+    }
+
+    /// Whether an interface of the program is another one of its interfaces or extends it, in any number of steps.
+    pub fn extends(&self, interface: u32, other: u32) -> bool
+        ensures { result ≡ is_extended self.now.interfaces interface other }
+    {
+        parts::extends(&self.tables, interface, other)
     }
 
     /// The function of this number.

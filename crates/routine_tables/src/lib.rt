@@ -7,6 +7,7 @@ mod locals;
 mod parameters;
 mod tables;
 
+pub use declared::push_sections;
 pub use entry::Entry;
-pub use parameters::{Parameter, Recipient};
+pub use parameters::{Parameter, Recipient, local_parameters};
 pub use tables::{RoutineTables, routine_tables};
