@@ -1,0 +1,4 @@
+pub mod HeldLaws
+pub mod EdgeLaws
+pub mod HoldLaws
+pub mod RegionLaws
