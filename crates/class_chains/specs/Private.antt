@@ -1,0 +1,4 @@
+-- The words of private contracts.
+pub mod Chain
+pub mod Grows
+pub mod Known

@@ -1,0 +1,4 @@
+pub mod Levels
+pub mod Size
+pub mod Sizes
+pub mod Private

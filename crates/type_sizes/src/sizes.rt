@@ -1,0 +1,95 @@
+//! Sizes of the types of a unit.
+
+ghost use Rattle.std.specs.Prelude.{◌≡◌, ◌<◌, length, IfOk};
+ghost use Rattle.st_rules.specs.Classes.{classes_in};
+ghost use Rattle.st_rules.specs.Scope.{Scope};
+ghost use Rattle.st_unit_rules.specs.Limits as limits;
+ghost use Rattle.type_sizes.specs.Size.{capped};
+ghost use Rattle.type_sizes.specs.Levels.{AreLevels, AreChainsOf};
+ghost use Rattle.type_sizes.specs.Sizes.{Measures};
+
+use crate::levels::{Level, size_of};
+use crate::rounds::next_level;
+use class_chains::ClassChains;
+use class_tables::ClassTables;
+use plc_text::NoMemory;
+use st_rules::DeclaredNames;
+use st_tree::Unit;
+use st_types::StType;
+use std::alloc::Global;
+
+/// Steps of containment that are looked at: more than a type may have.
+const STEPS: usize = 66;
+
+/// How many values the types of a unit have, and how deep they are. What is told holds for types that contain themselves too.
+#[derive(Drop)]
+pub struct TypeSizes {
+    levels: Vec<Level>,
+}
+
+fn levels_of(
+    alloc: Global,
+    names: &DeclaredNames,
+    chains: &ClassChains,
+) -> Result<Vec<Level>, NoMemory>
+    ensures long { IfOk result (λ levels. length levels.items ≡ 66) }
+    ensures levels { IfOk result (λ levels. (s : Scope) → s.names ≡ names.now → AreChainsOf s chains.now → AreLevels s levels.items) }
+{
+    let mut levels: Vec<Level> = Vec::new(alloc);
+    for _step in 0..STEPS {
+        let level = next_level(alloc, &levels, names, chains)?;
+        levels.push(level)?;
+    }
+    Ok(levels)
+}
+
+impl TypeSizes {
+    /// The sizes of the types of a unit, from what it says of its names. It takes time and memory linear in what the unit declares.
+    pub fn build(
+        alloc: Global,
+        unit: &Unit,
+        classes: &ClassTables,
+        names: &DeclaredNames,
+    ) -> Result<TypeSizes, NoMemory>
+        requires { classes.now ≡ unit.now }
+        ensures { IfOk result (λ sizes. (s : Scope) → s.classes ≡ classes_in unit.now.decls → s.names ≡ names.now → Measures sizes s) }
+    {
+        let chains = chains_of(alloc, unit, classes, names)?;
+        let levels = levels_of(alloc, names, &chains)?;
+        Ok(TypeSizes { levels })
+    }
+
+    /// How many values a variable of the type has, or 2^32 - 1, if there are more.
+    pub fn values_of(&self, kind: &Option<StType>) -> u32
+        ensures { (s : Scope) → Measures self.now s → result ≡ capped (limits.values_of s kind.now) }
+    {
+        match kind {
+            Some(kind) => size_of(&self.levels, STEPS, kind).values,
+            None => 0,
+        }
+    }
+
+    /// Whether so many steps of containment lead from the type to an array, a structure or an instance.
+    pub fn has_depth(&self, steps: u32, kind: &StType) -> bool
+        ensures { (s : Scope) → Measures self.now s → steps < 66 → result ≡ limits.has_depth s steps kind.now }
+    {
+        steps < size_of(&self.levels, STEPS, kind).steps
+    }
+}
+
+/// The chains of the classes, and of all that the unit declares as classes.
+fn chains_of(
+    alloc: Global,
+    unit: &Unit,
+    classes: &ClassTables,
+    names: &DeclaredNames,
+) -> Result<ClassChains, NoMemory>
+    requires { classes.now ≡ unit.now }
+    ensures { IfOk result (λ chains. (s : Scope) → s.classes ≡ classes_in unit.now.decls → s.names ≡ names.now → AreChainsOf s chains) }
+{
+    let Ok(count) = u32::try_from(names.classes.len()) else {
+        return Err(NoMemory);
+    };
+    let chains = ClassChains::build(alloc, unit, classes, count)?;
+    Ok(chains)
+}
