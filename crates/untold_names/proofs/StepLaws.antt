@@ -18,7 +18,7 @@ use Rattle.declared_names.specs.Declarations.{entries_in}
 use Rattle.declared_names.specs.Variables.{Written, is_parameter_written, is_kept_written, is_body_written}
 use Rattle.declaration_list.specs.declared.written.WrittenName.{WrittenName}
 use Rattle.declaration_list.specs.Written.{written_of}
-use Rattle.untold_names.specs.Untold.{untold_variable, member_target, number_behind, untold_members, untold_parameters, untold_method, untold_type, untold_types, untold_parts, region_target, untold_variables}
+use Rattle.untold_names.specs.Untold.{untold_variable, member_target, number_behind, untold_members, untold_parameters, untold_method, untold_type, untold_types, untold_parts, untold_interfaces, region_target, untold_variables}
 
 pub one_added : {X : Type 0} (new old : List X) (x y : X) (xs ys : List X) → new ≡ old ++ x ∷ [] → x ≡ y → xs ≡ ys → new ++ xs ≡ old ++ y ∷ ys
 one_added new old x y xs ys h e f = ap (λ zs. zs ++ xs) h ∙ append_assoc old (x ∷ []) xs ∙ ap (λ z. old ++ z ∷ xs) e ∙ ap (λ zs. old ++ y ∷ zs) f
@@ -87,3 +87,12 @@ parts_split (declaration.Globals s) ds = refl
 parts_split (declaration.Function f) ds = refl
 parts_split (declaration.Program p) ds = refl
 parts_split (declaration.Configuration c) ds = refl
+
+pub interfaces_split : (d : Decl ℕ) (ds : List (Decl ℕ)) → untold_interfaces (d ∷ ds) ≡ untold_interfaces (d ∷ []) ++ untold_interfaces ds
+interfaces_split (declaration.Types l ts) ds = refl
+interfaces_split (declaration.Class c) ds = refl
+interfaces_split (declaration.Interface i) ds = refl
+interfaces_split (declaration.Globals s) ds = refl
+interfaces_split (declaration.Function f) ds = refl
+interfaces_split (declaration.Program p) ds = refl
+interfaces_split (declaration.Configuration c) ds = refl
