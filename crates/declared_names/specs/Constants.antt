@@ -102,6 +102,10 @@ abbrev pub kind_in : Option StType → Elem
 kind_in (Some (type.Elementary e)) = e
 kind_in _ = kind.Dint
 
+-- A literal past 64 bits stands for no number: no kind has it, so it breaks a rule by itself.
+abbrev pub literal_outcome : ℤ → Outcome
+literal_outcome z = if int_le (neg_ℤ (pos 9223372036854775808)) z && int_le z (pos 18446744073709551615) then comes_to z else cannot_be_told
+
 abbrev pub target_value : Target → Outcome
 target_value (target.Constant z) = comes_to z
 target_value (target.Enumerator k) = comes_to (pos k)
@@ -128,9 +132,9 @@ if_none _ _ = None
 module _ (s : Scope) where
   abbrev mutual
     pub constant_value : Asked → Expression ℕ → Outcome
-    constant_value asked (Int l digits) = comes_to (pos (number_of digits))
-    constant_value asked (Typed l k literal) = comes_to (literal_number literal)
-    constant_value asked (Time l text) = comes_to (pos (milliseconds text))
+    constant_value asked (Int l digits) = literal_outcome (pos (number_of digits))
+    constant_value asked (Typed l k literal) = literal_outcome (literal_number literal)
+    constant_value asked (Time l text) = literal_outcome (pos (milliseconds text))
     constant_value asked (True l) = comes_to (pos 1)
     constant_value asked (False l) = comes_to (pos 0)
     constant_value asked (Null l) = comes_to (pos 0)
@@ -141,7 +145,7 @@ module _ (s : Scope) where
     constant_value asked (Now l) = cannot_be_told
     constant_value asked (Paren l e) = constant_value asked e
     constant_value asked (Not l e) = outcome_map (complement (kind_in (unary_type takes_not (type_of s Anything e)))) (constant_value Anything e)
-    constant_value asked (Negate l (Int k digits)) = comes_to (neg_ℤ (pos (number_of digits)))
+    constant_value asked (Negate l (Int k digits)) = literal_outcome (neg_ℤ (pos (number_of digits)))
     constant_value asked (Negate l e) =
         let inner = front_asked (is_untyped e) (number_asked asked) in
         outcome_map (difference (kind_in (unary_type takes_minus (type_of s inner e))) (pos 0)) (constant_value inner e)

@@ -3,8 +3,8 @@ use Rattle.std.proofs.Common.{◌≡◌, ℕ, Bool, true, List}
 use Rattle.std.specs.Bool.{Decides}
 use Rattle.st_rules.specs.Chains.{is_among, Leads, itself, onward}
 use Rattle.graph_cycles.specs.declared.graph.Edge.{Edge}
-use Rattle.graph_cycles.specs.Graph.{HasEdge, AreEdgesOf, LiesOnCycle, LeadsToCycle}
-use Rattle.graph_cycles.specs.Private.Ways.{Way, IsTurning, EndsTurning, here, further}
+use Rattle.graph_cycles.specs.Graph.{HasEdge, AreEdgesOf, LiesOnCycle, LeadsToCycle, LeadsToMarked, marked}
+use Rattle.graph_cycles.specs.Private.Ways.{Way, IsTurning, Ends, here, further}
 use Rattle.graph_cycles.specs.Private.Ways as ways
 
 -- a way of an edge and what leads on from there
@@ -28,16 +28,22 @@ module _ (edges : List Edge) (ahead : ℕ → List ℕ) (told : AreEdgesOf edges
   turns : (i : ℕ) → LiesOnCycle ahead i → IsTurning edges i
   turns i l = way i l.next i ((told.told i l.next).0 l.edge) l.back
 
-  leads : (i : ℕ) → EndsTurning edges i → LeadsToCycle ahead i
-  leads _ (here i t) = record { turning = i; way = itself i; cycle = lies i t }
-  leads _ (further i j e r) = let q = leads j r in record { turning = q.turning; way = onward i j q.turning ((told.told i j).1 e) q.way; cycle = q.cycle }
+  leads : (goals : List Bool) (i : ℕ) → Ends edges goals i → LeadsToMarked ahead goals i
+  leads goals _ (here i m) = record { goal = i; way = itself i; is = m }
+  leads goals _ (further i j e r) = let q = leads goals j r in record { goal = q.goal; way = onward i j q.goal ((told.told i j).1 e) q.way; is = q.is }
 
-  ends_at : (i t : ℕ) → Leads ahead i t → LiesOnCycle ahead t → EndsTurning edges i
-  ends_at _ _ (itself i) l = here i (turns i l)
-  ends_at _ _ (onward i j t edge r) l = further i j ((told.told i j).0 edge) (ends_at j t r l)
+  ends_at : (goals : List Bool) (i t : ℕ) → Leads ahead i t → marked goals t ≡ true → Ends edges goals i
+  ends_at goals _ _ (itself i) m = here i m
+  ends_at goals _ _ (onward i j t edge r) m = further i j ((told.told i j).0 edge) (ends_at goals j t r m)
 
   pub on_cycle : (b : Bool) (i : ℕ) → Decides b (IsTurning edges i) → Decides b (LiesOnCycle ahead i)
   on_cycle b i d = (λ h. lies i (d.0 h), λ l. d.1 (turns i l))
 
-  pub to_cycle : (b : Bool) (i : ℕ) → Decides b (EndsTurning edges i) → Decides b (LeadsToCycle ahead i)
-  to_cycle b i d = (λ h. leads i (d.0 h), λ l. d.1 (ends_at i l.turning l.way l.cycle))
+  pub to_marked : (goals : List Bool) (b : Bool) (i : ℕ) → Decides b (Ends edges goals i) → Decides b (LeadsToMarked ahead goals i)
+  to_marked goals b i d = (λ h. leads goals i (d.0 h), λ l. d.1 (ends_at goals i l.goal l.way l.is))
+
+pub to_cycle : (ahead : ℕ → List ℕ) (goals : List Bool) (b : Bool) (i : ℕ) → ((j : ℕ) → Decides (marked goals j) (LiesOnCycle ahead j)) → Decides b (LeadsToMarked ahead goals i) → Decides b (LeadsToCycle ahead i)
+to_cycle ahead goals b i turning d = (
+  λ h. let l = d.0 h in record { turning = l.goal; way = l.way; cycle = (turning l.goal).0 l.is },
+  λ c. d.1 (record { goal = c.turning; way = c.way; is = (turning c.turning).1 c.cycle }),
+)

@@ -34,3 +34,9 @@ pub record LeadsToCycle (ahead : ℕ → List ℕ) (i : ℕ) : Type 0 where
 -- whether the node is marked
 abbrev pub marked : List Bool → ℕ → Bool
 marked marks i = unwrap_or (slice_get marks i) false
+
+-- a node is marked, or leads to one that is
+pub record LeadsToMarked (ahead : ℕ → List ℕ) (marks : List Bool) (i : ℕ) : Type 0 where
+  pub goal : ℕ
+  pub way : Leads ahead i goal
+  pub is : marked marks goal ≡ true

@@ -1,15 +1,13 @@
-//! The nodes on a cycle or behind one, by rounds over all edges.
+//! The nodes that lead to goals, by rounds over all edges.
 
 ghost use Rattle.graph_cycles.specs.declared.graph.Edge.{Edge};
-ghost use Rattle.std.specs.Prelude.{List, ◌≡◌, ◌<◌, ◌≤◌, ℕ, length, true, false, IfOk, Some};
+ghost use Rattle.std.specs.Prelude.{List, ◌≡◌, ◌<◌, ◌≤◌, ℕ, Bool, length, true, false, Some};
 ghost use Rattle.graph_cycles.specs.Graph.{HasEdge, marked};
-ghost use Rattle.graph_cycles.specs.Private.Ways.{IsTurning, EndsTurning, mark_count, AllEnd, IsClosedBack};
+ghost use Rattle.graph_cycles.specs.Private.Ways.{Ends, mark_count, AllEnd, IsClosedBack};
 ghost use Rattle.std.specs.List.{slice_get};
 ghost use Rattle.std.specs.Bool.{Decides};
 
 use crate::graph::Edge;
-use plc_text::NoMemory;
-use std::alloc::Global;
 
 fn marked(marks: &[bool], i: usize) -> bool
     ensures { result ≡ marked marks.now i }
@@ -25,7 +23,7 @@ fn marked(marks: &[bool], i: usize) -> bool
 fn extend(marks: &mut Vec<bool>, edge: Edge) -> bool
     requires { edge.from < length marks.old.items }
     ensures long { length marks.new.items ≡ length marks.old.items }
-    ensures sound { (es : List Edge) → HasEdge es edge.from edge.to → AllEnd es marks.old.items → AllEnd es marks.new.items }
+    ensures sound { (es : List Edge) (goals : List Bool) → HasEdge es edge.from edge.to → AllEnd es goals marks.old.items → AllEnd es goals marks.new.items }
     ensures grows { (i : ℕ) → marked marks.old.items i ≡ true → marked marks.new.items i ≡ true }
     ensures stays { result ≡ false → marks.new.items ≡ marks.old.items }
     ensures closed { result ≡ false → IsClosedBack marks.old.items edge }
@@ -45,7 +43,7 @@ fn extend(marks: &mut Vec<bool>, edge: Edge) -> bool
 fn round(marks: &mut Vec<bool>, edges: &[Edge]) -> bool
     requires { (k : ℕ) (e : Edge) → slice_get edges.now k ≡ Some e → e.from < length marks.old.items }
     ensures long { length marks.new.items ≡ length marks.old.items }
-    ensures sound { AllEnd edges.now marks.old.items → AllEnd edges.now marks.new.items }
+    ensures sound { (goals : List Bool) → AllEnd edges.now goals marks.old.items → AllEnd edges.now goals marks.new.items }
     ensures grows { (i : ℕ) → marked marks.old.items i ≡ true → marked marks.new.items i ≡ true }
     ensures stays { result ≡ false → marks.new.items ≡ marks.old.items }
     ensures closed { result ≡ false → (k : ℕ) (e : Edge) → slice_get edges.now k ≡ Some e → IsClosedBack marks.old.items e }
@@ -64,7 +62,7 @@ fn round(marks: &mut Vec<bool>, edges: &[Edge]) -> bool
 fn extend_at(marks: &mut Vec<bool>, edges: &[Edge], k: usize)
     requires { (k : ℕ) (e : Edge) → slice_get edges.now k ≡ Some e → e.from < length marks.old.items }
     ensures long { length marks.new.items ≡ length marks.old.items }
-    ensures sound { AllEnd edges.now marks.old.items → AllEnd edges.now marks.new.items }
+    ensures sound { (goals : List Bool) → AllEnd edges.now goals marks.old.items → AllEnd edges.now goals marks.new.items }
     ensures grows { (i : ℕ) → marked marks.old.items i ≡ true → marked marks.new.items i ≡ true }
 {
     if k < edges.len() {
@@ -76,7 +74,7 @@ fn extend_at(marks: &mut Vec<bool>, edges: &[Edge], k: usize)
 fn ordered(marks: &mut Vec<bool>, edges: &[Edge], order: &[usize])
     requires { (k : ℕ) (e : Edge) → slice_get edges.now k ≡ Some e → e.from < length marks.old.items }
     ensures long { length marks.new.items ≡ length marks.old.items }
-    ensures sound { AllEnd edges.now marks.old.items → AllEnd edges.now marks.new.items }
+    ensures sound { (goals : List Bool) → AllEnd edges.now goals marks.old.items → AllEnd edges.now goals marks.new.items }
     ensures grows { (i : ℕ) → marked marks.old.items i ≡ true → marked marks.new.items i ≡ true }
 {
     for k in order {
@@ -84,15 +82,14 @@ fn ordered(marks: &mut Vec<bool>, edges: &[Edge], order: &[usize])
     }
 }
 
-/// The nodes that lie on a cycle or lead to one, from those that lie on one.
+/// The goals, and the nodes that lead to one.
 #[tactic(auto, using(crate::proofs::SearchLaws::count_le))]
-pub fn behind(edges: &[Edge], order: &[usize], on_cycle: Vec<bool>) -> Vec<bool>
-    requires inside { (k : ℕ) (e : Edge) → slice_get edges.now k ≡ Some e → e.from < length on_cycle.items }
-    requires cyclic { (i : ℕ) → Decides (marked on_cycle.items i) (IsTurning edges.now i) }
-    ensures long { length result.items ≡ length on_cycle.items }
-    ensures ends { (i : ℕ) → Decides (marked result.items i) (EndsTurning edges.now i) }
+pub fn behind(edges: &[Edge], order: &[usize], goals: Vec<bool>) -> Vec<bool>
+    requires { (k : ℕ) (e : Edge) → slice_get edges.now k ≡ Some e → e.from < length goals.items }
+    ensures long { length result.items ≡ length goals.items }
+    ensures ends { (i : ℕ) → Decides (marked result.items i) (Ends edges.now goals.items i) }
 {
-    let mut marks = on_cycle;
+    let mut marks = goals;
     ordered(&mut marks, edges, order);
     'rounds: loop {
         if !round(&mut marks, edges) {

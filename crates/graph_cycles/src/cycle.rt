@@ -4,8 +4,8 @@ ghost use Rattle.std.specs.Prelude.{List, ◌∷◌, ◌||◌, nat_eq, ◌≡◌
 ghost use Rattle.std.specs.List.{list_any, slice_get};
 ghost use Rattle.std.specs.Bool.{Decides};
 ghost use Rattle.graph_cycles.specs.declared.graph.Edge.{Edge as AnEdge};
-ghost use Rattle.graph_cycles.specs.Graph.{AreEdgesOf, AreWithin, LiesOnCycle, LeadsToCycle, marked};
-ghost use Rattle.graph_cycles.specs.Private.Ways.{IsTurning, EndsTurning};
+ghost use Rattle.graph_cycles.specs.Graph.{AreEdgesOf, AreWithin, LiesOnCycle, LeadsToCycle, LeadsToMarked, marked};
+ghost use Rattle.graph_cycles.specs.Private.Ways.{IsTurning};
 ghost use Rattle.graph_cycles.specs.Private.Places.{stays, stays_from};
 
 use crate::behind::behind;
@@ -92,15 +92,30 @@ pub fn cycle_nodes(alloc: Global, count: usize, edges: &[Edge]) -> Result<Vec<bo
     Ok(marks)
 }
 
+/// The nodes that are goals or lead to one are marked, of so many nodes; the goals are marked too.
+pub fn nodes_to(
+    alloc: Global,
+    count: usize,
+    edges: &[Edge],
+    goals: Vec<bool>,
+) -> Result<Vec<bool>, NoMemory>
+    requires within { AreWithin count edges.now }
+    requires goals { length goals.items ≡ count }
+    ensures long { IfOk result (λ marks. length marks.items ≡ count) }
+    ensures leads { IfOk result (λ marks. (ahead : ℕ → List ℕ) → AreEdgesOf edges.now ahead → (i : ℕ) → Decides (marked marks.items i) (LeadsToMarked ahead goals.items i)) }
+{
+    let order = edge_order(alloc, count, edges)?;
+    let marks = behind(edges, &order, goals);
+    Ok(marks)
+}
+
 /// The nodes that lie on a cycle or lead to one are marked, of so many nodes.
 pub fn nodes_to_cycles(alloc: Global, count: usize, edges: &[Edge]) -> Result<Vec<bool>, NoMemory>
     requires { AreWithin count edges.now }
     ensures long { IfOk result (λ marks. length marks.items ≡ count) }
     ensures cycles { IfOk result (λ marks. (ahead : ℕ → List ℕ) → AreEdgesOf edges.now ahead → (i : ℕ) → Decides (marked marks.items i) (LeadsToCycle ahead i)) }
 {
-    let hint = places(alloc, count, edges)?;
-    let on_cycle = on_cycles(alloc, count, edges, &hint)?;
-    let order = edge_order(alloc, count, edges)?;
-    let marks = behind(edges, &order, on_cycle);
+    let on_cycle = cycle_nodes(alloc, count, edges)?;
+    let marks = nodes_to(alloc, count, edges, on_cycle)?;
     Ok(marks)
 }

@@ -1,4 +1,4 @@
-//! The nodes of a graph that lie on a cycle or lead to one, in time linear in the graph.
+//! The nodes of a graph that lie on a cycle, lead to one, or lead to goals, in time linear in the graph.
 #![tactic(auto)]
 
 mod behind;
@@ -10,5 +10,5 @@ mod search;
 #[cfg(test)]
 mod tests;
 
-pub use cycle::{cycle_nodes, nodes_to_cycles};
+pub use cycle::{cycle_nodes, nodes_to, nodes_to_cycles};
 pub use graph::Edge;

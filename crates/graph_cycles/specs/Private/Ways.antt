@@ -26,13 +26,13 @@ pub record IsClosedAt (root : ℕ) (marks : List Bool) (e : Edge) : Type 0 where
   pub root_marked : e.from ≡ root → marked marks e.to ≡ true
   pub marked_marked : marked marks e.from ≡ true → marked marks e.to ≡ true
 
--- a node leads to itself, or to one that does
-pub data EndsTurning (edges : List Edge) : ℕ → Type 0 where
-  here : (i : ℕ) → IsTurning edges i → EndsTurning edges i
-  further : (i j : ℕ) → HasEdge edges i j → EndsTurning edges j → EndsTurning edges i
+-- a node is one of the goals, or leads to one
+pub data Ends (edges : List Edge) (goals : List Bool) : ℕ → Type 0 where
+  here : (i : ℕ) → marked goals i ≡ true → Ends edges goals i
+  further : (i j : ℕ) → HasEdge edges i j → Ends edges goals j → Ends edges goals i
 
-pub record AllEnd (edges : List Edge) (marks : List Bool) : Type 0 where
-  pub ends : (i : ℕ) → marked marks i ≡ true → EndsTurning edges i
+pub record AllEnd (edges : List Edge) (goals marks : List Bool) : Type 0 where
+  pub ends : (i : ℕ) → marked marks i ≡ true → Ends edges goals i
 
 pub record IsClosedBack (marks : List Bool) (e : Edge) : Type 0 where
   pub back : marked marks e.to ≡ true → marked marks e.from ≡ true

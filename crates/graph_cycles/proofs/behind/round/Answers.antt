@@ -13,7 +13,7 @@ loop-edge-preserved c =
     elim c.if-extend.branch [
       | then-extend w ↦ record {
         long = c.extend.ensures.long ∙ c.loop-edge.invariant.long;
-        sound = λ s. c.extend.ensures.sound c.args.edges.now has (c.loop-edge.invariant.sound s);
+        sound = λ goals s. c.extend.ensures.sound c.args.edges.now goals has (c.loop-edge.invariant.sound goals s);
         grows = λ i h. c.extend.ensures.grows i (c.loop-edge.invariant.grows i h);
         stays = λ h. cc (h, w.changed-is);
         closed = λ h. cc (h, w.changed-is);
@@ -24,7 +24,7 @@ loop-edge-preserved c =
           let same = c.extend.ensures.stays w.if-extend.false in
           record {
             long = c.extend.ensures.long ∙ c.loop-edge.invariant.long;
-            sound = λ s. c.extend.ensures.sound c.args.edges.now has (c.loop-edge.invariant.sound s);
+            sound = λ goals s. c.extend.ensures.sound c.args.edges.now goals has (c.loop-edge.invariant.sound goals s);
             grows = λ i h. c.extend.ensures.grows i (c.loop-edge.invariant.grows i h);
             stays = λ h. let was : c.loop-edge.changed ≡ false = cc (h, w.changed-is) in same ∙ c.loop-edge.invariant.stays was;
             closed = λ h. let was : c.loop-edge.changed ≡ false = cc (h, w.changed-is) in closed_more c.args.edges.now c.loop-edge.marks.items c.args.marks.now.items c.loop-edge.edge-index (record { from = 0; to = 0 }) (c.loop-edge.invariant.stays was) (c.loop-edge.invariant.closed was) (c.extend.ensures.closed w.if-extend.false);

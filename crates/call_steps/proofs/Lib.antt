@@ -1,0 +1,3 @@
+pub mod CalleeLaws
+pub mod SameLaws
+pub mod FoundLaws

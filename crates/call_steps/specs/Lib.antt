@@ -1,0 +1,3 @@
+pub mod Callee
+pub mod Found
+pub mod Private

@@ -1,0 +1,4 @@
+-- The words of private contracts.
+pub mod Callee
+pub mod Found
+pub mod Given

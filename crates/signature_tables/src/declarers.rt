@@ -1,0 +1,165 @@
+//! The methods of interfaces by name.
+
+ghost use Rattle.std.specs.Prelude.{◌≡◌, ℕ, List, [], ◌∷◌, ◌++◌, nat_eq, true, false, Some, None, MatchOption, IfOk, OnOk, if◌then◌else◌};
+ghost use Rattle.plc_text.specs.Words.{same};
+ghost use Rattle.st_values.specs.View.{signature_of};
+ghost use Rattle.program_tables.specs.Interfaces.{is_extended};
+ghost use Rattle.routine_tables.specs.Parameters.{parameters_of};
+ghost use Rattle.signature_tables.specs.Private.Declarers as declarers;
+
+use plc_text::{Items, NoMemory, Text};
+use program_tables::ProgramTables;
+use routine_tables::{Parameter, local_parameters, push_sections};
+use st_tree::{InterfaceDecl, Note, Prototype};
+use std::alloc::Global;
+use std::collections::HashMap;
+
+/// A method of an interface, with what it may be given.
+#[derive(Drop)]
+pub struct Declared {
+    pub interface: u32,
+    pub parameters: Items<Parameter>,
+}
+
+/// The methods of each name, in the order of the text.
+pub type Declarers = HashMap<Text, Items<Declared>>;
+
+/// The inputs, outputs and in-outs of a method: locals behind its result.
+fn parameters_in(alloc: Global, method: &Prototype<Note>) -> Result<Items<Parameter>, NoMemory>
+    ensures { IfOk result (λ made. parameters_of made ≡ (signature_of method.now).parameters) }
+{
+    let mut variables = Vec::new(alloc);
+    push_sections(&mut variables, method.sections.as_slice())?;
+    let first = match method.result {
+        Some(_) => 1,
+        None => 0,
+    };
+    let made = local_parameters(alloc, first, &variables)?;
+    Ok(made)
+}
+
+/// Takes out the methods of a name.
+fn taken(alloc: Global, table: &mut Declarers, name: &Text) -> Items<Declared>
+    ensures methods { result ≡ declarers.declared_in table.old name.now }
+    ensures others { (q : List ℕ) → same name.now q ≡ false → declarers.declared_in table.new q ≡ declarers.declared_in table.old q }
+{
+    match table.remove(name) {
+        Some(methods) => methods,
+        None => Items::new(alloc),
+    }
+}
+
+/// Adds a method behind those of its name.
+fn note(
+    alloc: Global,
+    table: &mut Declarers,
+    name: &Text,
+    declared: Declared,
+) -> Result<(), NoMemory>
+    ensures { OnOk result ((q : List ℕ) → declarers.declared_in table.new q ≡ declarers.declared_in table.old q ++ (if same name.now q then declared ∷ [] else [])) }
+{
+    let copy = Text::copy(alloc, name.as_str())?;
+    let mut methods = taken(alloc, table, name);
+    methods.push(declared)?;
+    table.insert(copy, methods)?;
+    Ok(())
+}
+
+/// Adds a method of an interface.
+fn note_method(
+    alloc: Global,
+    table: &mut Declarers,
+    interface: u32,
+    method: &Prototype<Note>,
+) -> Result<(), NoMemory>
+    ensures { OnOk result ((q : List ℕ) → declarers.signed_in table.new q ≡ declarers.signed_in table.old q ++ declarers.one_named q interface method.now) }
+{
+    let parameters = parameters_in(alloc, method)?;
+    let declared = Declared {
+        interface,
+        parameters,
+    };
+    note(alloc, table, &method.name.text, declared)?;
+    Ok(())
+}
+
+/// Adds the methods of an interface.
+fn note_all(
+    alloc: Global,
+    table: &mut Declarers,
+    interface: u32,
+    methods: &[Prototype<Note>],
+) -> Result<(), NoMemory>
+    ensures { OnOk result ((q : List ℕ) → declarers.signed_in table.new q ≡ declarers.signed_in table.old q ++ declarers.all_named q interface methods.now) }
+{
+    for method in methods {
+        note_method(alloc, table, interface, method)?;
+    }
+    Ok(())
+}
+
+fn narrowed(place: usize) -> Result<u32, NoMemory>
+    ensures { IfOk result (λ n. n ≡ place) }
+{
+    match u32::try_from(place) {
+        Ok(n) => Ok(n),
+        Err(_) => Err(NoMemory),
+    }
+}
+
+/// The methods of interfaces.
+pub fn declarers(alloc: Global, interfaces: &[InterfaceDecl<Note>]) -> Result<Declarers, NoMemory>
+    ensures { IfOk result (λ table. (q : List ℕ) → declarers.signed_in table q ≡ declarers.named_from q 0 interfaces.now) }
+{
+    let mut table: Declarers = HashMap::new(alloc);
+    for interface in 0..interfaces.len() {
+        let number = narrowed(interface)?;
+        note_all(
+            alloc,
+            &mut table,
+            number,
+            interfaces[interface].methods.as_slice(),
+        )?;
+    }
+    Ok(table)
+}
+
+/// The methods of a name.
+pub fn methods_named<'a>(table: &'a Declarers, name: &Text) -> &'a [Declared]
+    ensures { result.now ≡ declarers.declared_in table.now name.now }
+{
+    match table.get(name) {
+        Some(methods) => methods.as_slice(),
+        None => &[],
+    }
+}
+
+/// What the first of the methods that an interface declares itself may be given.
+pub fn first_own(methods: &[Declared], interface: u32) -> Option<&[Parameter]>
+    ensures { MatchOption result (declarers.first_of (λ j. nat_eq j interface) (declarers.signed methods.now) ≡ None) (λ found. declarers.first_of (λ j. nat_eq j interface) (declarers.signed methods.now) ≡ Some (parameters_of found.now)) }
+{
+    for place in 0..methods.len() {
+        let method = &methods[place];
+        if method.interface == interface {
+            return Some(method.parameters.as_slice());
+        }
+    }
+    None
+}
+
+/// What the first of the methods may be given that stands in an interface, or in one that it extends.
+pub fn first_extended<'a>(
+    tables: &ProgramTables,
+    methods: &'a [Declared],
+    interface: u32,
+) -> Option<&'a [Parameter]>
+    ensures { MatchOption result (declarers.first_of (is_extended tables.now.interfaces interface) (declarers.signed methods.now) ≡ None) (λ found. declarers.first_of (is_extended tables.now.interfaces interface) (declarers.signed methods.now) ≡ Some (parameters_of found.now)) }
+{
+    for place in 0..methods.len() {
+        let method = &methods[place];
+        if tables.extends(interface, method.interface) {
+            return Some(method.parameters.as_slice());
+        }
+    }
+    None
+}

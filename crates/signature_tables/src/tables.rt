@@ -1,0 +1,46 @@
+//! What methods of interfaces may be given.
+
+ghost use Rattle.std.specs.Prelude.{◌≡◌, slice_get, IfOk};
+ghost use Rattle.st_values.specs.View.{program_of};
+ghost use Rattle.st_frame.specs.Use.{interface_parameters};
+ghost use Rattle.routine_tables.specs.Parameters.{parameters_of};
+ghost use Rattle.signature_tables.specs.Tables.{Declares};
+
+use crate::declarers::{Declarers, declarers, first_extended, first_own, methods_named};
+use plc_text::{NoMemory, Text};
+use program_tables::ProgramTables;
+use routine_tables::Parameter;
+use st_tree::Program;
+use std::alloc::Global;
+
+/// The methods of a program's interfaces by name, with what each may be given.
+#[derive(Drop)]
+pub struct SignatureTables {
+    methods: Declarers,
+}
+
+/// The tables of a program.
+pub fn signature_tables(alloc: Global, program: &Program) -> Result<SignatureTables, NoMemory>
+    ensures { IfOk result (λ made. Declares program.now made) }
+{
+    let methods = declarers(alloc, program.interfaces.as_slice())?;
+    Ok(SignatureTables { methods })
+}
+
+impl SignatureTables {
+    /// What the method may be given that a name means in an interface: its own, or else that of the first interface in the text that it
+    /// extends and that declares one. Nothing where there is none. This goes over the interfaces that declare the name.
+    pub fn parameters(&self, tables: &ProgramTables, interface: u32, name: &Text) -> &[Parameter]
+        requires { Declares tables.now self.now }
+        ensures { parameters_of result.now ≡ interface_parameters (slice_get (program_of tables.now).interfaces interface) name.now }
+    {
+        let methods = methods_named(&self.methods, name);
+        match first_own(methods, interface) {
+            Some(parameters) => parameters,
+            None => match first_extended(tables, methods, interface) {
+                Some(parameters) => parameters,
+                None => &[],
+            },
+        }
+    }
+}

@@ -1,0 +1,11 @@
+pub mod Basis
+pub mod Heart
+pub mod Types
+pub mod Lookups
+pub mod Tells
+pub mod Walk
+pub mod Next
+pub mod Rounds
+pub mod Settled
+pub mod Telling
+pub mod LocalTelling
