@@ -1,6 +1,5 @@
 -- One statement, branch, case or label more.
-use Rattle.std.proofs.Common.{◌≡◌, ℕ, ◌+◌, ◌<◌, ◌≤◌, Bool, List, [], ◌∷◌, ◌++◌, Option, None, refl, sym, ap, ◌∙◌, map, drop, get_or, length}
-use Rattle.plc_text.specs.declared.code.Code.{Code}
+use Rattle.std.proofs.Common.{◌≡◌, ℕ, ◌+◌, ◌<◌, ◌≤◌, Bool, List, [], ◌∷◌, ◌++◌, None, refl, sym, ap, ◌∙◌, map, drop, get_or, length}
 use Rattle.st_tree.specs.declared.program.Note.{Note}
 use Rattle.st_tree.specs.declared.statement.Branch.{Branch}
 use Rattle.st_tree.specs.declared.statement.Case.{Case as CodeCase}
@@ -12,10 +11,10 @@ use Rattle.st_rules.specs.declared.asked.Asked.{Asked}
 use Rattle.st_rules.specs.declared.asked.Asked.TheVariants.{Wanted}
 use Rattle.st_rules.specs.Kinds.{boolean}
 use Rattle.st_rules.specs.Expressions.{typed}
-use Rattle.st_rules.specs.Faults.{Faults, least, earlier}
+use Rattle.st_rules.specs.Faults.{least, earlier}
 use Rattle.st_rules.specs.Scope.{Scope}
 use Rattle.st_rules.specs.Statements.{condition_faults, labels_faults, typed_label, statement_faults, statements_faults, branches_faults, cases_faults, typed_statement, typed_statements, typed_branches, typed_cases}
-use Rattle.st_rules.proofs.FaultLaws.{least-append, earlier-assoc, earlier-none}
+use Rattle.st_rules.proofs.FaultLaws.{earlier-none}
 use Rattle.st_rules.proofs.ListLaws.{drop-at, drop-end}
 use Rattle.st_body_parts.specs.declared.found.CheckedStatement.{CheckedStatement}
 use Rattle.st_body_parts.specs.declared.found.CheckedStatements.{CheckedStatements}

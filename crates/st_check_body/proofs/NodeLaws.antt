@@ -1,11 +1,9 @@
 -- Statements with statements in them, from what their parts are found to be.
-use Rattle.std.proofs.Common.{◌≡◌, ℕ, Bool, true, false, List, [], ◌++◌, Option, None, refl, sym, ap, ◌∙◌, subst, map}
+use Rattle.std.proofs.Common.{◌≡◌, ℕ, Bool, true, false, List, ◌++◌, Option, None, refl, sym, ap, ◌∙◌, subst}
 use Rattle.std.specs.Prelude.{option_map}
-use Rattle.plc_text.specs.declared.code.Code.{Code}
 use Rattle.st_tree.specs.declared.expression.Argument.{Argument as CodeArgument}
 use Rattle.st_tree.specs.declared.expression.Expr.{Expr}
 use Rattle.st_tree.specs.declared.expression.Place.{Place as CodePlace}
-use Rattle.st_tree.specs.declared.program.Note.{Note}
 use Rattle.st_tree.specs.declared.statement.Branch.{Branch}
 use Rattle.st_tree.specs.declared.statement.Case.{Case as CodeCase}
 use Rattle.st_tree.specs.declared.statement.Label.{Label}
@@ -14,15 +12,15 @@ use Rattle.st_tree.specs.declared.statement.Otherwise.TheVariants as otherwise
 use Rattle.st_tree.specs.declared.statement.Stmt.{Stmt}
 use Rattle.st_tree.specs.declared.statement.Stmt.TheVariants as code
 use Rattle.st_tree.specs.Expression.{Expression, expression_of, arguments_of, place_of}
-use Rattle.st_tree.specs.Statement.{Statement, Statements, Call, If, Case, For, While, Repeat, Else, Branches, Cases, Otherwise, statement_of, statements_of, branches_of, cases_of, otherwise_of, branch_of, branch_of-is, case_branch_of, case_branch_of-is, statement_of-Call, statement_of-If, statement_of-Case, statement_of-For, statement_of-While, statement_of-Repeat, otherwise_of-Else}
+use Rattle.st_tree.specs.Statement.{Statement, Statements, Call, If, Case, For, While, Repeat, Else, Otherwise, statement_of, statements_of, branches_of, cases_of, otherwise_of, branch_of, branch_of-is, case_branch_of, case_branch_of-is, statement_of-Call, statement_of-If, statement_of-Case, statement_of-For, statement_of-While, statement_of-Repeat, otherwise_of-Else}
 use Rattle.st_rules.specs.declared.asked.Asked.{Asked}
 use Rattle.st_rules.specs.declared.asked.Asked.TheVariants.{Anything, Wanted}
-use Rattle.st_rules.specs.Faults.{Faults, least, earlier}
+use Rattle.st_rules.specs.Faults.{earlier}
 use Rattle.st_rules.specs.Kinds.{boolean}
 use Rattle.st_rules.specs.Scope.{Scope, sought}
 use Rattle.st_rules.specs.Literals.{asked_of}
 use Rattle.st_rules.specs.Expressions.{note, meant_target, type_of, typed}
-use Rattle.st_rules.specs.Statements.{condition_faults, case_selector_faults, labels_faults, typed_label, for_faults, control_type, control_asked, statements_faults, branches_faults, cases_faults, otherwise_faults, typed_statements, typed_branches, typed_cases, typed_otherwise, typed_statement}
+use Rattle.st_rules.specs.Statements.{condition_faults, case_selector_faults, labels_faults, for_faults, control_type, control_asked, statements_faults, branches_faults, cases_faults, otherwise_faults, typed_statements, typed_branches, typed_cases}
 use Rattle.st_expr_parts.specs.declared.found.Checked.{Checked}
 use Rattle.st_expr_parts.specs.Found.{Finds}
 use Rattle.st_body_parts.specs.declared.found.CheckedStatement.{CheckedStatement}

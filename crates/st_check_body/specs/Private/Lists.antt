@@ -1,5 +1,5 @@
 -- Lists that are still to come: what was done so far, and what the rest gives, is the whole.
-use Rattle.std.specs.Prelude.{◌≡◌, ℕ, Bool, List, [], ◌∷◌, ◌++◌, map, None}
+use Rattle.std.specs.Prelude.{◌≡◌, ℕ, Bool, List, [], ◌∷◌, map, None}
 use Rattle.st_tree.specs.declared.program.Note.{Note}
 use Rattle.st_tree.specs.declared.statement.Label.{Label}
 use Rattle.st_tree.specs.Expression.{Expression}

@@ -1,4 +1,4 @@
-use Rattle.std.proofs.Common.{◌≡◌, sym, ap, ◌∙◌}
+use Rattle.std.proofs.Common.{ap, ◌∙◌}
 use Rattle.st_tree.specs.Statement.{statement_of, statement_of-Empty, statement_of-Assign, statement_of-Attempt, statement_of-Exit, statement_of-Continue, statement_of-Return, otherwise_of, otherwise_of-Nothing}
 use Rattle.st_check_body.proofs.ListLaws.{statements_begun, statements_next, statements_ended, branches_begun, branches_next, branches_ended, cases_begun, cases_next, cases_ended}
 use Rattle.st_check_body.proofs.NodeLaws.{statement_seen, call_seen, otherwise_seen, if_arm, case_arm, for_arm, while_arm, repeat_arm, branch_arm, case_branch_arm, else_arm}
