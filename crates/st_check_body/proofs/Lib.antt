@@ -1,0 +1,3 @@
+pub mod Parts
+pub mod ListLaws
+pub mod NodeLaws
