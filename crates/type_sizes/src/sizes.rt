@@ -69,8 +69,15 @@ impl TypeSizes {
         }
     }
 
+    /// Whether more than 64 steps of containment lead from the type to an array, a structure or an instance.
+    pub fn is_too_deep(&self, kind: &StType) -> bool
+        ensures { (s : Scope) → Measures self.now s → result ≡ limits.has_depth s 65 kind.now }
+    {
+        self.has_depth(65, kind)
+    }
+
     /// Whether so many steps of containment lead from the type to an array, a structure or an instance.
-    pub fn has_depth(&self, steps: u32, kind: &StType) -> bool
+    fn has_depth(&self, steps: u32, kind: &StType) -> bool
         ensures { (s : Scope) → Measures self.now s → steps < 66 → result ≡ limits.has_depth s steps kind.now }
     {
         steps < size_of(&self.levels, STEPS, kind).steps
