@@ -10,6 +10,7 @@ pub mod Signatures
 pub mod ClassRules
 pub mod InterfaceRules
 pub mod Scope
+pub mod Telling
 pub mod Kinds
 pub mod Literals
 pub mod Places

@@ -15,7 +15,8 @@ use Rattle.declared_names.specs.Variables.{Written, sections_written, declared_e
 use Rattle.declared_names.specs.UnitNames.{forgotten, told_locals, constants_written, locals_of, program_locals}
 use Rattle.told_laws.specs.ToldLaws.{Each, Every, AlikeVariable, AlikeType, NoLess, MeansNoLess, TellsKind}
 use Rattle.told_laws.proofs.Basis.{VariableBasis, GlobalBasis, ClassBasis, PartsBasis, BasisNoLess}
-use Rattle.told_laws.specs.TellingLaws.{variable_told, NoValueLeft}
+use Rattle.st_rules.specs.Telling.{variable_told}
+use Rattle.told_laws.specs.TellingLaws.{NoValueLeft}
 use Rattle.told_laws.specs.LocalLaws.{with_local, SoundLocals, TellsAll, LocalLaws}
 use Rattle.told_laws.proofs.Tells.{routine-tells, members-tell, told-tells}
 use Rattle.told_laws.proofs.Next.{each-with, same-kind, variable-basis, Follows, routine-follows, members-follow, AnyKind, AnyTarget, routine-names, member-names, each-forgotten, forgotten-variable}

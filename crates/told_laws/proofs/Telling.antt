@@ -15,7 +15,8 @@ use Rattle.declared_names.specs.Constants.{is_told}
 use Rattle.declared_names.specs.UnitNames.{names_from, names_told, unit_names, steps_needed, no_names}
 use Rattle.told_laws.specs.ToldLaws.{Each, Every, AlikeTarget, AlikeVariable, AlikeClass, AlikeType, AlikeGlobal, NoLess, MeansNoLess, TellsNoLess, TellsKind, TellsGlobalKind, ToldLaws}
 use Rattle.told_laws.proofs.Basis.{VariableBasis, GlobalBasis, ClassBasis, PartsBasis, BasisNoLess}
-use Rattle.told_laws.specs.TellingLaws.{changed_at, type_told, variable_told, global_told, member_told, with_type, with_global, with_member, Sound, NoTypeLeft, NoValueLeft, NoGlobalLeft, NothingLeft, TellingLaws}
+use Rattle.st_rules.specs.Telling.{changed_at, type_told, variable_told, global_told, member_told, with_type, with_global, with_member}
+use Rattle.told_laws.specs.TellingLaws.{Sound, NoTypeLeft, NoValueLeft, NoGlobalLeft, NothingLeft, TellingLaws}
 use Rattle.told_laws.proofs.Types.{tells}
 use Rattle.told_laws.proofs.Tells.{names-tell}
 use Rattle.told_laws.proofs.Next.{variable-basis, basis-of, basis-next, next, grows, step-tells, forgotten-less, same-names}

@@ -9,7 +9,8 @@ use Rattle.st_rules.specs.Scope.{Scope}
 use Rattle.declared_names.specs.Variables.{members_declared, routine_locals}
 use Rattle.declared_names.specs.UnitNames.{forgotten, locals_of, program_locals}
 use Rattle.told_laws.specs.ToldLaws.{Each, Every, AlikeVariable, NoLess, MeansNoLess, TellsKind}
-use Rattle.told_laws.specs.TellingLaws.{changed_at, variable_told, NoValueLeft}
+use Rattle.st_rules.specs.Telling.{changed_at, variable_told}
+use Rattle.told_laws.specs.TellingLaws.{NoValueLeft}
 
 -- the local at the place has this type and means this
 abbrev pub with_local : List DeclaredVariable → ℕ → StType → Target → List DeclaredVariable

@@ -26,7 +26,8 @@ use Rattle.declared_names.specs.Variables.{Written, sections_written, sections_i
 use Rattle.declared_names.specs.Declarations.{Global, Declaration, an_entry, a_global, an_interface, a_class, a_function, a_program, a_configuration, declarations, is_entry, is_class, is_interface}
 use Rattle.declared_names.specs.UnitNames.{unit_scope, class_scope, entry_kind, class_declared, locals_of, program_locals, names_from, unit_names}
 use Rattle.told_laws.specs.ToldLaws.{Each, AlikeVariable, AlikeClass, AlikeType, AlikeGlobal, NoLess, MeansNoLess}
-use Rattle.told_laws.specs.TellingLaws.{with_type, with_global, with_member, Sound, NoTypeLeft, NoValueLeft, NoGlobalLeft}
+use Rattle.st_rules.specs.Telling.{with_type, with_global, with_member}
+use Rattle.told_laws.specs.TellingLaws.{Sound, NoTypeLeft, NoValueLeft, NoGlobalLeft}
 use Rattle.told_laws.specs.LocalLaws.{with_local, SoundLocals}
 use Rattle.told_laws.proofs.Telling.{from-below, telling_laws}
 use Rattle.told_laws.proofs.LocalTelling.{local_laws}

@@ -24,7 +24,8 @@ use Rattle.declared_names.specs.WrittenTypes.{type_written}
 use Rattle.declared_names.specs.Variables.{Written, sections_written, sections_in, constant_of, members_declared, result_count, routine_locals}
 use Rattle.declared_names.specs.Declarations.{Global, Declaration, an_entry, a_global, an_interface, a_class, a_function, declarations, is_entry, is_class, is_interface}
 use Rattle.declared_names.specs.UnitNames.{unit_scope, class_scope, entry_kind, locals_of, program_locals, names_from, unit_names}
-use Rattle.told_laws.specs.TellingLaws.{with_type, with_global, with_member, Sound}
+use Rattle.st_rules.specs.Telling.{with_type, with_global, with_member}
+use Rattle.told_laws.specs.TellingLaws.{Sound}
 use Rattle.told_laws.specs.LocalLaws.{with_local, SoundLocals}
 
 -- ---- places
