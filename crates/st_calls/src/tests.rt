@@ -6,6 +6,7 @@ use crate::{
 };
 use class_tables::ClassTables;
 use iface_tables::IfaceTables;
+use plc_series::Series;
 use plc_text::{Code, Items, NoMemory, Text};
 use st_lexer::{lexemes, tokens};
 use st_parser_expr::parse_expr;
@@ -76,9 +77,9 @@ fn variable(
 }
 
 /// An input A, an in-out IO and an output Q.
-fn parameters(alloc: Global) -> Result<Items<DeclaredVariable>, NoMemory> {
+fn parameters(alloc: Global) -> Result<Series<DeclaredVariable>, NoMemory> {
     let int = Elem::Int;
-    let mut all = Items::new(alloc);
+    let mut all = Series::new(alloc);
     all.push(variable(alloc, "A", SectionSort::Input, StType::Elementary(int))?)?;
     all.push(variable(alloc, "IO", SectionSort::InOut, StType::Elementary(int))?)?;
     all.push(variable(alloc, "Q", SectionSort::Output, StType::Elementary(int))?)?;
@@ -88,7 +89,7 @@ fn parameters(alloc: Global) -> Result<Items<DeclaredVariable>, NoMemory> {
 fn declared_class(
     alloc: Global,
     sort: ClassSort,
-    variables: Items<DeclaredVariable>,
+    variables: Series<DeclaredVariable>,
 ) -> Result<DeclaredClass, NoMemory> {
     Ok(DeclaredClass {
         sort,
@@ -102,10 +103,10 @@ fn global(alloc: Global, text: &str, kind: StType) -> Result<DeclaredGlobal, NoM
 }
 
 fn names(alloc: Global) -> Result<DeclaredNames, NoMemory> {
-    let mut classes = Items::new(alloc);
+    let mut classes = Series::new(alloc);
     classes.push(declared_class(alloc, ClassSort::FunctionBlock, parameters(alloc)?)?)?;
-    classes.push(declared_class(alloc, ClassSort::Class, Items::new(alloc))?)?;
-    let mut globals = Items::new(alloc);
+    classes.push(declared_class(alloc, ClassSort::Class, Series::new(alloc))?)?;
+    let mut globals = Series::new(alloc);
     globals.push(global(alloc, "G", StType::Elementary(Elem::Int))?)?;
     globals.push(global(alloc, "BK", StType::Instance(0))?)?;
     globals.push(global(alloc, "CI", StType::Instance(1))?)?;
@@ -120,7 +121,7 @@ fn names(alloc: Global) -> Result<DeclaredNames, NoMemory> {
         },
     ))?;
     Ok(DeclaredNames {
-        types: Items::new(alloc),
+        types: Series::new(alloc),
         parts: Items::new(alloc),
         classes,
         interfaces: Items::new(alloc),

@@ -4,6 +4,7 @@
 use crate::check_body;
 use class_tables::ClassTables;
 use iface_tables::IfaceTables;
+use plc_series::Series;
 use plc_text::{Boxed, Code, Items, NoMemory, Text};
 use st_check_expr::Broken;
 use st_lexer::{lexemes, tokens};
@@ -50,8 +51,8 @@ fn int() -> Option<StType> {
 }
 
 /// An input A, an in-out IO and an output Q.
-fn parameters(alloc: Global) -> Result<Items<DeclaredVariable>, NoMemory> {
-    let mut all = Items::new(alloc);
+fn parameters(alloc: Global) -> Result<Series<DeclaredVariable>, NoMemory> {
+    let mut all = Series::new(alloc);
     for (name, sort) in [
         ("A", SectionSort::Input),
         ("IO", SectionSort::InOut),
@@ -67,7 +68,7 @@ fn routine(
     alloc: Global,
     text: &str,
     outcome: ResultType,
-    parameters: Items<DeclaredVariable>,
+    parameters: Series<DeclaredVariable>,
 ) -> Result<DeclaredRoutine, NoMemory> {
     let name = Text::copy(alloc, text)?;
     Ok(DeclaredRoutine {
@@ -120,8 +121,8 @@ const VARIABLES: [(&str, &str); 14] = [
 ];
 
 /// The variables; C1 is a constant, IN lies at an input address.
-fn globals(alloc: Global) -> Result<Items<DeclaredGlobal>, NoMemory> {
-    let mut all = Items::new(alloc);
+fn globals(alloc: Global) -> Result<Series<DeclaredGlobal>, NoMemory> {
+    let mut all = Series::new(alloc);
     for (name, word) in &VARIABLES {
         let kind = kind_of(alloc, word)?;
         let mut one = variable(alloc, name, SectionSort::Global, kind)?;
@@ -132,7 +133,7 @@ fn globals(alloc: Global) -> Result<Items<DeclaredGlobal>, NoMemory> {
     let of_f = parameters(alloc)?;
     let f = routine(alloc, "F", ResultType::Written(int()), of_f)?;
     all.push(DeclaredGlobal::Function(0, f))?;
-    let proc = routine(alloc, "PROC", ResultType::Nothing, Items::new(alloc))?;
+    let proc = routine(alloc, "PROC", ResultType::Nothing, Series::new(alloc))?;
     all.push(DeclaredGlobal::Function(1, proc))?;
     Ok(all)
 }
@@ -153,7 +154,7 @@ fn block(alloc: Global) -> Result<DeclaredClass, NoMemory> {
     n.access = Access::Private;
     variables.push(n)?;
     let a = variable(alloc, "A", SectionSort::Input, int())?;
-    let mut of_m = Items::new(alloc);
+    let mut of_m = Series::new(alloc);
     of_m.push(a)?;
     let m = routine(alloc, "M", ResultType::Written(int()), of_m)?;
     let mut methods = Items::new(alloc);
@@ -167,7 +168,7 @@ fn block(alloc: Global) -> Result<DeclaredClass, NoMemory> {
 
 fn names(alloc: Global) -> Result<DeclaredNames, NoMemory> {
     let e = Text::copy(alloc, "E")?;
-    let mut types = Items::new(alloc);
+    let mut types = Series::new(alloc);
     types.push(DeclaredType {
         name: e,
         kind: Some(StType::Enumeration(0)),
@@ -176,7 +177,7 @@ fn names(alloc: Global) -> Result<DeclaredNames, NoMemory> {
     let mut parts = Items::new(alloc);
     parts.push(values)?;
     let k = block(alloc)?;
-    let mut classes = Items::new(alloc);
+    let mut classes = Series::new(alloc);
     classes.push(k)?;
     let globals = globals(alloc)?;
     Ok(DeclaredNames {

@@ -3,6 +3,7 @@
 use crate::{Broken, check_expr};
 use class_tables::ClassTables;
 use iface_tables::IfaceTables;
+use plc_series::Series;
 use plc_text::{Boxed, Code, Items, NoMemory, Text};
 use st_lexer::{lexemes, tokens};
 use st_parser_expr::parse_expr;
@@ -56,8 +57,8 @@ fn elementary(kind: Elem) -> Option<StType> {
 }
 
 /// An input A, an in-out IO and an output Q.
-fn parameters(alloc: Global) -> Result<Items<DeclaredVariable>, NoMemory> {
-    let mut all = Items::new(alloc);
+fn parameters(alloc: Global) -> Result<Series<DeclaredVariable>, NoMemory> {
+    let mut all = Series::new(alloc);
     all.push(variable(alloc, "A", SectionSort::Input, elementary(Elem::Int))?)?;
     all.push(variable(alloc, "IO", SectionSort::InOut, elementary(Elem::Int))?)?;
     all.push(variable(alloc, "Q", SectionSort::Output, elementary(Elem::Int))?)?;
@@ -69,7 +70,7 @@ fn function(
     number: u32,
     text: &str,
     outcome: ResultType,
-    parameters: Items<DeclaredVariable>,
+    parameters: Series<DeclaredVariable>,
 ) -> Result<DeclaredGlobal, NoMemory> {
     Ok(DeclaredGlobal::Function(
         number,
@@ -100,8 +101,8 @@ const VARIABLES: [(&str, Elem); 13] = [
     ("TJ", Elem::Time),
 ];
 
-fn globals(alloc: Global) -> Result<Items<DeclaredGlobal>, NoMemory> {
-    let mut all = Items::new(alloc);
+fn globals(alloc: Global) -> Result<Series<DeclaredGlobal>, NoMemory> {
+    let mut all = Series::new(alloc);
     for (name, kind) in &VARIABLES {
         let one = variable(alloc, name, SectionSort::Global, elementary(*kind))?;
         all.push(DeclaredGlobal::Variable(one))?;
@@ -126,12 +127,12 @@ fn globals(alloc: Global) -> Result<Items<DeclaredGlobal>, NoMemory> {
     all.push(DeclaredGlobal::Variable(fixed))?;
     let int = ResultType::Written(elementary(Elem::Int));
     all.push(function(alloc, 0, "F", int, parameters(alloc)?)?)?;
-    all.push(function(alloc, 1, "PROC", ResultType::Nothing, Items::new(alloc))?)?;
+    all.push(function(alloc, 1, "PROC", ResultType::Nothing, Series::new(alloc))?)?;
     Ok(all)
 }
 
 fn names(alloc: Global) -> Result<DeclaredNames, NoMemory> {
-    let mut types = Items::new(alloc);
+    let mut types = Series::new(alloc);
     types.push(DeclaredType {
         name: Text::copy(alloc, "E")?,
         kind: Some(StType::Enumeration(0)),
@@ -141,7 +142,7 @@ fn names(alloc: Global) -> Result<DeclaredNames, NoMemory> {
     values.push(Text::copy(alloc, "BLUE")?)?;
     let mut parts = Items::new(alloc);
     parts.push(TypeParts::Values(values))?;
-    let mut classes = Items::new(alloc);
+    let mut classes = Series::new(alloc);
     classes.push(DeclaredClass {
         sort: ClassSort::FunctionBlock,
         variables: parameters(alloc)?,

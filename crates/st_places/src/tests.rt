@@ -6,6 +6,7 @@ use crate::{
 };
 use class_tables::ClassTables;
 use iface_tables::IfaceTables;
+use plc_series::Series;
 use plc_text::{Boxed, Code, Items, NoMemory, Text};
 use st_lexer::{lexemes, tokens};
 use st_parser_expr::parse_expr;
@@ -116,7 +117,7 @@ fn class(
     first: DeclaredVariable,
     second: DeclaredVariable,
 ) -> Result<DeclaredClass, NoMemory> {
-    let mut variables = Items::new(alloc);
+    let mut variables = Series::new(alloc);
     variables.push(first)?;
     variables.push(second)?;
     let mut methods = Items::new(alloc);
@@ -125,7 +126,7 @@ fn class(
         access: Access::Public,
         abstract_method: false,
         outcome: ResultType::Nothing,
-        parameters: Items::new(alloc),
+        parameters: Series::new(alloc),
     })?;
     Ok(DeclaredClass {
         sort: ClassSort::Class,
@@ -134,8 +135,8 @@ fn class(
     })
 }
 
-fn types(alloc: Global) -> Result<(Items<DeclaredType>, Items<TypeParts>), NoMemory> {
-    let mut types = Items::new(alloc);
+fn types(alloc: Global) -> Result<(Series<DeclaredType>, Items<TypeParts>), NoMemory> {
+    let mut types = Series::new(alloc);
     types.push(DeclaredType {
         name: Text::copy(alloc, "E")?,
         kind: Some(StType::Enumeration(0)),
@@ -161,8 +162,8 @@ fn global(alloc: Global, text: &str, kind: StType) -> Result<DeclaredGlobal, NoM
     Ok(DeclaredGlobal::Variable(variable(alloc, text, SectionSort::Global, Access::Public, kind)?))
 }
 
-fn globals(alloc: Global) -> Result<Items<DeclaredGlobal>, NoMemory> {
-    let mut globals = Items::new(alloc);
+fn globals(alloc: Global) -> Result<Series<DeclaredGlobal>, NoMemory> {
+    let mut globals = Series::new(alloc);
     globals.push(global(alloc, "G", int())?)?;
     let row = StType::Array(0, 1, Boxed::new(alloc, int())?);
     globals.push(global(alloc, "ARR", StType::Array(0, 3, Boxed::new(alloc, row)?))?)?;
@@ -176,7 +177,7 @@ fn globals(alloc: Global) -> Result<Items<DeclaredGlobal>, NoMemory> {
             access: Access::Public,
             abstract_method: false,
             outcome: ResultType::Nothing,
-            parameters: Items::new(alloc),
+            parameters: Series::new(alloc),
         },
     ))?;
     let mut fixed = variable(alloc, "C", SectionSort::Global, Access::Public, int())?;
@@ -188,7 +189,7 @@ fn globals(alloc: Global) -> Result<Items<DeclaredGlobal>, NoMemory> {
 
 fn names(alloc: Global) -> Result<DeclaredNames, NoMemory> {
     let (types, parts) = types(alloc)?;
-    let mut classes = Items::new(alloc);
+    let mut classes = Series::new(alloc);
     classes.push(class(
         alloc,
         variable(alloc, "N", SectionSort::Var, Access::Private, int())?,

@@ -3,6 +3,7 @@
 
 use crate::modifiers::Access;
 use crate::signature::ResultType;
+use plc_series::Series;
 use plc_text::{Items, Text};
 use st_tree::{ClassSort, SectionSort, Target};
 use st_types::StType;
@@ -33,7 +34,7 @@ pub struct DeclaredRoutine {
     pub abstract_method: bool,
     pub outcome: ResultType,
     /// The inputs, outputs and in-outs, in the order of the text.
-    pub parameters: Items<DeclaredVariable>,
+    pub parameters: Series<DeclaredVariable>,
 }
 
 /// A class or a function block: what it declares itself, in the order of the text.
@@ -41,7 +42,7 @@ pub struct DeclaredRoutine {
 pub struct DeclaredClass {
     pub sort: ClassSort,
     /// Constants, in-outs, temporary variables and externals among them.
-    pub variables: Items<DeclaredVariable>,
+    pub variables: Series<DeclaredVariable>,
     pub methods: Items<DeclaredRoutine>,
 }
 
@@ -86,12 +87,12 @@ pub enum DeclaredGlobal {
 #[derive(Drop)]
 pub struct DeclaredNames {
     /// Entries of TYPE, classes and interfaces.
-    pub types: Items<DeclaredType>,
+    pub types: Series<DeclaredType>,
     /// By the number of an entry of TYPE.
     pub parts: Items<TypeParts>,
     /// By the number of a class.
-    pub classes: Items<DeclaredClass>,
+    pub classes: Series<DeclaredClass>,
     /// The methods of an interface, by its number.
     pub interfaces: Items<Items<DeclaredRoutine>>,
-    pub globals: Items<DeclaredGlobal>,
+    pub globals: Series<DeclaredGlobal>,
 }

@@ -3,6 +3,7 @@
 use crate::{Meant, NameTables, Qualifier, Scope};
 use class_tables::ClassTables;
 use iface_tables::IfaceTables;
+use plc_series::Series;
 use plc_text::{Items, NoMemory, Text};
 use st_rules::{
     Access, DeclaredClass, DeclaredGlobal, DeclaredNames, DeclaredRoutine, DeclaredType,
@@ -71,7 +72,7 @@ fn declared_class(
     first: DeclaredVariable,
     second: DeclaredVariable,
 ) -> Result<DeclaredClass, NoMemory> {
-    let mut variables = Items::new(alloc);
+    let mut variables = Series::new(alloc);
     variables.push(first)?;
     variables.push(second)?;
     Ok(DeclaredClass {
@@ -89,7 +90,7 @@ fn values(alloc: Global, first: &str, second: &str) -> Result<TypeParts, NoMemor
 }
 
 fn declared(alloc: Global) -> Result<DeclaredNames, NoMemory> {
-    let mut types = Items::new(alloc);
+    let mut types = Series::new(alloc);
     types.push(DeclaredType {
         name: Text::copy(alloc, "E")?,
         kind: Some(StType::Enumeration(0)),
@@ -101,7 +102,7 @@ fn declared(alloc: Global) -> Result<DeclaredNames, NoMemory> {
     let mut parts = Items::new(alloc);
     parts.push(values(alloc, "RED", "GREEN")?)?;
     parts.push(values(alloc, "GREEN", "BLUE")?)?;
-    let mut classes = Items::new(alloc);
+    let mut classes = Series::new(alloc);
     classes.push(declared_class(
         alloc,
         variable(alloc, "N", SectionSort::Var, Access::Private)?,
@@ -112,7 +113,7 @@ fn declared(alloc: Global) -> Result<DeclaredNames, NoMemory> {
         variable(alloc, "T", SectionSort::Temp, Access::Public)?,
         variable(alloc, "G", SectionSort::External, Access::Public)?,
     )?)?;
-    let mut globals = Items::new(alloc);
+    let mut globals = Series::new(alloc);
     globals.push(DeclaredGlobal::Variable(variable(
         alloc,
         "G",
@@ -126,7 +127,7 @@ fn declared(alloc: Global) -> Result<DeclaredNames, NoMemory> {
             access: Access::Public,
             abstract_method: false,
             outcome: ResultType::Nothing,
-            parameters: Items::new(alloc),
+            parameters: Series::new(alloc),
         },
     ))?;
     Ok(DeclaredNames {

@@ -12,7 +12,8 @@ ghost use Rattle.untold_names.specs.Private.Adds.{AddsGlobals};
 use crate::routines::untold_routine;
 use crate::variables::{number_behind, untold_variable};
 use declaration_list::WrittenName;
-use plc_text::{Items, NoMemory};
+use plc_series::Series;
+use plc_text::NoMemory;
 use st_rules::DeclaredGlobal;
 use st_tree::{Configuration, Decl, FunctionDecl, Item, Resource, Section, Target};
 use std::alloc::Global;
@@ -31,7 +32,7 @@ fn region_target(name: &WrittenName<'_>, region: u32) -> Target
 #[tactic(auto, using(crate::proofs::GlobalLaws::name_added))]
 fn add_name(
     alloc: Global,
-    list: &mut Items<DeclaredGlobal>,
+    list: &mut Series<DeclaredGlobal>,
     region: u32,
     name: &WrittenName<'_>,
 ) -> Result<u32, NoMemory>
@@ -46,7 +47,7 @@ fn add_name(
 
 fn add_item(
     alloc: Global,
-    list: &mut Items<DeclaredGlobal>,
+    list: &mut Series<DeclaredGlobal>,
     first: u32,
     section: &Section<u32>,
     item: &Item<u32>,
@@ -69,7 +70,7 @@ fn add_item(
 
 fn add_section(
     alloc: Global,
-    list: &mut Items<DeclaredGlobal>,
+    list: &mut Series<DeclaredGlobal>,
     first: u32,
     section: &Section<u32>,
 ) -> Result<u32, NoMemory>
@@ -85,7 +86,7 @@ fn add_section(
 
 fn add_sections(
     alloc: Global,
-    list: &mut Items<DeclaredGlobal>,
+    list: &mut Series<DeclaredGlobal>,
     first: u32,
     sections: &[Section<u32>],
 ) -> Result<u32, NoMemory>
@@ -111,7 +112,7 @@ fn resource_globals(resource: &Option<Resource<u32>>) -> &[Section<u32>]
 #[tactic(auto, using(crate::proofs::GlobalLaws::configuration_added))]
 fn add_configuration(
     alloc: Global,
-    list: &mut Items<DeclaredGlobal>,
+    list: &mut Series<DeclaredGlobal>,
     first: u32,
     configuration: &Configuration<u32>,
 ) -> Result<u32, NoMemory>
@@ -136,7 +137,7 @@ fn behind_instances(region: u32, count: usize) -> Result<u32, NoMemory>
 
 fn add_function(
     alloc: Global,
-    list: &mut Items<DeclaredGlobal>,
+    list: &mut Series<DeclaredGlobal>,
     number: u32,
     function: &FunctionDecl<u32>,
 ) -> Result<(), NoMemory>
@@ -164,7 +165,7 @@ struct Next {
 #[tactic(auto, using(crate::proofs::GlobalLaws::section_declared, crate::proofs::GlobalLaws::function_declared, crate::proofs::GlobalLaws::configuration_declared))]
 fn add_declaration(
     alloc: Global,
-    list: &mut Items<DeclaredGlobal>,
+    list: &mut Series<DeclaredGlobal>,
     next: Next,
     decl: &Decl<u32>,
 ) -> Result<Next, NoMemory>
@@ -202,10 +203,13 @@ fn add_declaration(
 }
 
 /// The globals and functions of a unit, in the order of the text.
-pub fn untold_globals(alloc: Global, decls: &[Decl<u32>]) -> Result<Items<DeclaredGlobal>, NoMemory>
+pub fn untold_globals(
+    alloc: Global,
+    decls: &[Decl<u32>],
+) -> Result<Series<DeclaredGlobal>, NoMemory>
     ensures { IfOk result (λ list. list ≡ untold.untold_globals 0 0 decls.now) }
 {
-    let mut list = Items::new(alloc);
+    let mut list = Series::new(alloc);
     let mut next = Next {
         region: 0,
         function: 0,

@@ -4,6 +4,7 @@ ghost use Rattle.std.specs.Prelude.{◌≡◌, [], ◌∷◌, ◌++◌, map, fla
 ghost use Rattle.declared_names.specs.Declarations.{entries_in};
 ghost use Rattle.untold_names.specs.Untold as untold;
 
+use plc_series::Series;
 use plc_text::{Items, NoMemory, Text};
 use st_rules::{DeclaredField, DeclaredType, TypeParts};
 use st_tree::{Decl, FieldGroup, Name, TypeBody, TypeDecl};
@@ -21,7 +22,7 @@ fn untold_type(alloc: Global, name: &Name) -> Result<DeclaredType, NoMemory>
 
 fn add_entries(
     alloc: Global,
-    list: &mut Items<DeclaredType>,
+    list: &mut Series<DeclaredType>,
     entries: &[TypeDecl<u32>],
 ) -> Result<(), NoMemory>
     ensures { OnOk result (list.new ≡ list.old ++ map (λ t. untold.untold_type t.name) entries.now) }
@@ -35,7 +36,7 @@ fn add_entries(
 
 fn add_types(
     alloc: Global,
-    list: &mut Items<DeclaredType>,
+    list: &mut Series<DeclaredType>,
     decl: &Decl<u32>,
 ) -> Result<(), NoMemory>
     ensures { OnOk result (list.new ≡ list.old ++ untold.untold_types (decl.now ∷ [])) }
@@ -56,10 +57,10 @@ fn add_types(
 }
 
 /// The entries of TYPE, classes and interfaces of a unit, in the order of the text.
-pub fn untold_types(alloc: Global, decls: &[Decl<u32>]) -> Result<Items<DeclaredType>, NoMemory>
+pub fn untold_types(alloc: Global, decls: &[Decl<u32>]) -> Result<Series<DeclaredType>, NoMemory>
     ensures { IfOk result (λ list. list ≡ untold.untold_types decls.now) }
 {
-    let mut list = Items::new(alloc);
+    let mut list = Series::new(alloc);
     for decl in decls {
         add_types(alloc, &mut list, decl)?;
     }

@@ -9,7 +9,8 @@ ghost use Rattle.declaration_list.specs.Written.{written_of};
 ghost use Rattle.untold_names.specs.Untold as untold;
 
 use declaration_list::WrittenName;
-use plc_text::{Items, NoMemory, Text};
+use plc_series::Series;
+use plc_text::{NoMemory, Text};
 use st_rules::{Access, DeclaredVariable, written_access};
 use st_tree::{Area, SectionSort, Target, area_of};
 use std::alloc::Global;
@@ -125,7 +126,7 @@ struct Numbers {
 #[tactic(auto, using(crate::proofs::StepLaws::member_added))]
 fn add_member(
     alloc: Global,
-    list: &mut Items<DeclaredVariable>,
+    list: &mut Series<DeclaredVariable>,
     next: Numbers,
     name: &WrittenName<'_>,
 ) -> Result<Numbers, NoMemory>
@@ -145,10 +146,10 @@ pub fn untold_members(
     first_variable: u32,
     first_local: u32,
     names: &[WrittenName<'_>],
-) -> Result<Items<DeclaredVariable>, NoMemory>
+) -> Result<Series<DeclaredVariable>, NoMemory>
     ensures { IfOk result (λ vs. vs ≡ untold.untold_members first_variable first_local (map written_of names.now)) }
 {
-    let mut list = Items::new(alloc);
+    let mut list = Series::new(alloc);
     let mut next = Numbers {
         variable: first_variable,
         local: first_local,
@@ -163,7 +164,7 @@ pub fn untold_members(
 #[tactic(auto, using(crate::proofs::StepLaws::parameter_added, crate::proofs::StepLaws::no_parameter))]
 fn add_parameter(
     alloc: Global,
-    list: &mut Items<DeclaredVariable>,
+    list: &mut Series<DeclaredVariable>,
     next: u32,
     name: &WrittenName<'_>,
 ) -> Result<u32, NoMemory>
@@ -183,10 +184,10 @@ pub fn untold_parameters(
     alloc: Global,
     first: u32,
     names: &[WrittenName<'_>],
-) -> Result<Items<DeclaredVariable>, NoMemory>
+) -> Result<Series<DeclaredVariable>, NoMemory>
     ensures { IfOk result (λ vs. vs ≡ untold.untold_parameters first (map written_of names.now)) }
 {
-    let mut list = Items::new(alloc);
+    let mut list = Series::new(alloc);
     let mut next = first;
     for name in names {
         next = add_parameter(alloc, &mut list, next, name)?;
