@@ -3,3 +3,4 @@ pub mod ClimbLaws
 pub mod TableLaws
 pub mod EnumeratorLaws
 pub mod ChainLaws
+pub mod TellLaws

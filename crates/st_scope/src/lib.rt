@@ -9,6 +9,7 @@ mod places;
 mod routines;
 mod scope;
 mod tables;
+mod telling;
 #[cfg(test)]
 mod tests;
 

@@ -16,7 +16,8 @@ use class_tables::ClassTables;
 use iface_tables::IfaceTables;
 use plc_text::{NoMemory, Text};
 use st_rules::{
-    Access, DeclaredField, DeclaredGlobal, DeclaredRoutine, DeclaredVariable, MethodId, PrototypeId,
+    Access, DeclaredField, DeclaredGlobal, DeclaredRoutine, DeclaredType, DeclaredVariable,
+    MethodId, PrototypeId,
 };
 use st_types::StType;
 use std::alloc::Global;
@@ -178,6 +179,13 @@ impl<'a> Scope<'a> {
             Some(g) => Some(global_meaning(g)),
             None => None,
         }
+    }
+
+    /// The first entry of TYPE, class or interface of the name.
+    pub fn type_named(&self, name: &Text) -> Option<&'a DeclaredType>
+        ensures { MatchOption result (scope.type_named name.now self.now.names.types ≡ None) (λ t. scope.type_named name.now self.now.names.types ≡ Some t.now) }
+    {
+        self.names.type_named(name)
     }
 
     /// What an entry means: of VAR_EXTERNAL the global of its name.

@@ -10,6 +10,7 @@ ghost use Rattle.st_rules.specs.Chains.{nearest};
 ghost use Rattle.st_rules.specs.Classes.{base_of as base_in_unit, chain, classes_in};
 ghost use Rattle.st_rules.specs.Scope as scope;
 ghost use Rattle.st_rules.specs.Scope.{first_named, Scope as AScope};
+ghost use Rattle.st_rules.specs.Telling.{with_type, with_global, with_member};
 ghost use Rattle.st_scope.specs.Tables.{Holds, Knows};
 ghost use Rattle.st_scope.specs.Private.Enumerators as enumerators;
 ghost use Rattle.st_scope.specs.Private.Places as places;
@@ -24,13 +25,15 @@ use crate::places::{
     Numbers, Places, Which, fields, global_variables, globals, number_of, place_of, types, values,
 };
 use crate::routines::{is_block, method_at, prototype_at};
+use crate::telling::{tell_entry, tell_in_class, tell_shared};
 use class_tables::ClassTables;
 use plc_text::{NoMemory, Text};
 use st_rules::{
     DeclaredField, DeclaredGlobal, DeclaredNames, DeclaredRoutine, DeclaredType, DeclaredVariable,
     MethodId, PrototypeId, TypeParts,
 };
-use st_tree::Unit;
+use st_tree::{Target, Unit};
+use st_types::StType;
 use std::alloc::Global;
 use std::marker::Model;
 
@@ -258,6 +261,34 @@ impl NameTables {
             inherited,
             of_instance,
         })
+    }
+
+    /// From now on the entry of TYPE, the class or the interface at the place has this type. No such place: nothing changes.
+    pub fn tell_type(&mut self, place: u32, kind: StType)
+        ensures names { self.new.names ≡ with_type self.old.names place kind }
+        ensures bases { self.new.bases ≡ self.old.bases }
+        ensures derived { self.new.derived ≡ self.old.derived }
+    {
+        tell_entry(&mut self.names.types, place, kind);
+    }
+
+    /// From now on the constant at the place among the globals and functions has this type and means this. No such place, or a
+    /// function's: nothing changes.
+    pub fn tell_global(&mut self, place: u32, kind: StType, target: Target)
+        ensures names { self.new.names ≡ with_global self.old.names place kind target }
+        ensures bases { self.new.bases ≡ self.old.bases }
+        ensures derived { self.new.derived ≡ self.old.derived }
+    {
+        tell_shared(&mut self.names.globals, place, kind, target);
+    }
+
+    /// From now on the constant at the place among what the class declares has this type and means this. No such place: nothing changes.
+    pub fn tell_member(&mut self, class: u32, place: u32, kind: StType, target: Target)
+        ensures names { self.new.names ≡ with_member self.old.names class place kind target }
+        ensures bases { self.new.bases ≡ self.old.bases }
+        ensures derived { self.new.derived ≡ self.old.derived }
+    {
+        tell_in_class(&mut self.names.classes, class, place, kind, target);
     }
 
     /// The first entry of TYPE, class or interface of the name.
