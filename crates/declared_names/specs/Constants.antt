@@ -1,6 +1,6 @@
 -- Values of constant expressions: literals, constants, enumerators, conversions, and operators over them, with the meaning that they
 -- have at run time (IEC 61131-3:2013, 6.5.1.4).
-use Rattle.std.specs.Prelude.{ℕ, ℤ, pos, neg_ℤ, int_lt, int_le, Bool, true, false, not, ◌&&◌, if◌then◌else◌, [], ◌++◌, Option, Some, None}
+use Rattle.std.specs.Prelude.{ℕ, nat_lt, ◌^◌, ℤ, pos, neg_ℤ, int_lt, int_le, Bool, true, false, not, ◌&&◌, if◌then◌else◌, [], ◌++◌, Option, Some, None}
 use Rattle.std.specs.Ordering.{int_eq}
 use Rattle.plc_text.specs.declared.code.Code.TheVariants.{E05, E13}
 use Rattle.st_types.specs.declared.elem.Elem.{Elem}
@@ -106,6 +106,10 @@ kind_in _ = kind.Dint
 abbrev pub literal_outcome : ℤ → Outcome
 literal_outcome z = if int_le (neg_ℤ (pos 9223372036854775808)) z && int_le z (pos 18446744073709551615) then comes_to z else cannot_be_told
 
+-- Nor does a duration past 32 bits.
+abbrev pub duration_outcome : ℕ → Outcome
+duration_outcome n = if nat_lt n (2 ^ 32) then comes_to (pos n) else cannot_be_told
+
 abbrev pub target_value : Target → Outcome
 target_value (target.Constant z) = comes_to z
 target_value (target.Enumerator k) = comes_to (pos k)
@@ -134,7 +138,7 @@ module _ (s : Scope) where
     pub constant_value : Asked → Expression ℕ → Outcome
     constant_value asked (Int l digits) = literal_outcome (pos (number_of digits))
     constant_value asked (Typed l k literal) = literal_outcome (literal_number literal)
-    constant_value asked (Time l text) = literal_outcome (pos (milliseconds text))
+    constant_value asked (Time l text) = duration_outcome (milliseconds text)
     constant_value asked (True l) = comes_to (pos 1)
     constant_value asked (False l) = comes_to (pos 0)
     constant_value asked (Null l) = comes_to (pos 0)
