@@ -1,0 +1,5 @@
+pub mod Wide
+pub mod OperationLaws
+pub mod NotedLaws
+pub mod TypeLaws
+pub mod ValueLaws

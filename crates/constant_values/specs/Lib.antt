@@ -1,0 +1,4 @@
+pub mod Outcome
+pub mod Noted
+pub mod ValueLaws
+pub mod Private
