@@ -1,0 +1,10 @@
+//! All names of a unit with nothing told of them.
+#![tactic(auto)]
+
+mod counts;
+mod names;
+mod sums;
+#[cfg(test)]
+mod tests;
+
+pub use names::unit_untold;
