@@ -1,0 +1,6 @@
+pub mod ArgumentLaws
+pub mod CallLaws
+pub mod CallSteps
+pub mod ListLaws
+pub mod LoopSteps
+pub mod PlaceLaws
