@@ -1,5 +1,5 @@
 -- What is added one after the other.
-use Rattle.std.proofs.Common.{◌≡◌, ℕ, zero, suc, List, [], ◌∷◌, ◌++◌, length, Option, Some, None, refl, sym, ap, ◌∙◌, subst, ◌⊎◌, inl, inr, ⊎_elim, arith}
+use Rattle.std.proofs.Common.{◌≡◌, ℕ, zero, suc, List, [], ◌∷◌, ◌++◌, length, Some, None, refl, sym, ap, ◌∙◌, subst, ◌⊎◌, inl, inr, ⊎_elim, arith}
 use Rattle.std.specs.Prelude.{slice_get}
 use Rattle.st_tree.specs.declared.program.Program.{Program as CheckedProgram}
 use Rattle.st_rules.proofs.Booleans.{none≢some, some-same}
@@ -8,7 +8,7 @@ use Rattle.st_frame.specs.Footprint.{Has}
 use Rattle.program_tables.specs.Routine.{routine_of}
 use Rattle.program_tables.specs.declared.routine.RoutineId.{RoutineId}
 use Rattle.reached_routines.specs.Reached.{IsListed}
-use Rattle.reached_routines.specs.Private.Adds.{Stands, AddsOne, AddsBut, Adds, Nothing, Via, Takes, Is}
+use Rattle.reached_routines.specs.Private.Adds.{Stands, AddsOne, Adds, Via, Takes, Is}
 
 pub no_items : {A : Type 0} (xs : List A) → length xs ≡ 0 → xs ≡ []
 no_items [] h = refl

@@ -1,6 +1,6 @@
 -- What was asked stays answered.
 use Rattle.std.proofs.Common.{◌≡◌, ℕ, Bool, true, false, List, [], ◌∷◌, Option, Some, None, cond, refl, sym, ap, ◌∙◌, subst, ◌⊎◌, inl, inr, ⊎_elim, nat_eq}
-use Rattle.std.specs.Prelude.{IsTrue, ◌&&◌, not, slice_get}
+use Rattle.std.specs.Prelude.{IsTrue, not, slice_get}
 use Rattle.std.specs.Cmp.Lexicographic.{pointwise}
 use Rattle.std.specs.HashSet.{HashSet, contains}
 use Rattle.std.specs.List.{list_any}
@@ -9,7 +9,7 @@ use Rattle.std.proofs.lemmas.Bool.{eqb-true}
 use Rattle.st_types.specs.declared.st_type.StType.{StType}
 use Rattle.st_tree.specs.declared.program.Program.{Program as CheckedProgram}
 use Rattle.st_rules.proofs.Booleans.{true≢false, false≢true, both}
-use Rattle.st_values.specs.Program.{Routine, Program, conforms}
+use Rattle.st_values.specs.Program.{Routine, conforms}
 use Rattle.st_values.specs.View.{program_of}
 use Rattle.st_frame.specs.Footprint.{Has}
 use Rattle.program_tables.specs.declared.routine.RoutineId.{RoutineId}

@@ -1,7 +1,7 @@
 -- What calls enter.
-use Rattle.std.proofs.Common.{◌≡◌, ◌<◌, ℕ, suc, ◌+◌, true, List, [], ◌∷◌, drop, length, get_or, Option, Some, None, refl, sym, ap, ◌∙◌, subst, arith}
+use Rattle.std.proofs.Common.{◌≡◌, ◌<◌, ℕ, suc, ◌+◌, true, List, ◌∷◌, drop, length, get_or, Option, Some, None, refl, sym, ap, ◌∙◌, subst, arith}
 use Rattle.std.proofs.Math.Seq.{drop-cons}
-use Rattle.std.specs.Prelude.{IsTrue, option_map, slice_get}
+use Rattle.std.specs.Prelude.{option_map, slice_get}
 use Rattle.st_types.specs.declared.st_type.StType.{StType}
 use Rattle.st_tree.specs.declared.program.Program.{Program as CheckedProgram}
 use Rattle.st_tree.specs.declared.program.RegionDecl.{RegionDecl}
@@ -13,7 +13,7 @@ use Rattle.st_values.specs.View.{program_of, region_of}
 use Rattle.st_meaning.specs.Call.{class_of_kind}
 use Rattle.st_meaning.specs.Enter.{program_body}
 use Rattle.st_frame.specs.Use.{Called, the_function, a_method_of, a_method_from, a_body_of, the_body_from, Use, calls, names, follows, changes, Owner, routine_uses}
-use Rattle.st_frame.specs.Footprint.{Has, Enters, by_number, by_class, by_text, by_body, by_base}
+use Rattle.st_frame.specs.Footprint.{Enters, by_number, by_class, by_text, by_body, by_base}
 use Rattle.program_tables.specs.declared.routine.RoutineId.{RoutineId}
 use Rattle.body_uses.specs.Uses.{use_of, uses_of}
 use Rattle.body_uses.specs.declared.uses.Use.{Use as CodeUse}

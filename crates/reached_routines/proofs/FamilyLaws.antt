@@ -1,12 +1,12 @@
 -- The classes of each class and interface.
-use Rattle.std.proofs.Common.{◌≡◌, ◌<◌, ◌≤◌, ℕ, zero, suc, ◌+◌, Bool, true, false, List, [], ◌∷◌, ◌++◌, length, Option, Some, None, refl, sym, ap, ◌∙◌, subst, ◌⊎◌, inl, inr, ⊎_elim, arith, nat_eq}
-use Rattle.std.specs.Prelude.{if◌then◌else◌, ◌&&◌, IsTrue, filter, nat_lt, slice_get}
+use Rattle.std.proofs.Common.{◌≡◌, ◌<◌, ◌≤◌, ℕ, ◌+◌, Bool, true, false, List, [], ◌∷◌, ◌++◌, length, Option, Some, None, refl, sym, ap, ◌∙◌, subst, ◌⊎◌, inl, inr, ⊎_elim, arith, nat_eq}
+use Rattle.std.specs.Prelude.{if◌then◌else◌, ◌&&◌, filter, nat_lt, slice_get}
 use Rattle.std.specs.List.{range_with_len}
 use Rattle.std.specs.Bool.{beq}
 use Rattle.std.specs.HashMap.{HashMap}
 use Rattle.std.specs.Map.{lookup}
 use Rattle.std.proofs.lemmas.Bool.{eqb-true, eq-eqb}
-use Rattle.std.proofs.lemmas.Option.{slice_get_within, slice_get_past}
+use Rattle.std.proofs.lemmas.Option.{slice_get_within}
 use Rattle.st_types.specs.declared.st_type.StType.{StType}
 use Rattle.st_types.specs.declared.st_type.StType.TheVariants as type
 use Rattle.st_tree.specs.declared.declaration.ClassDecl.{ClassDecl}
@@ -18,11 +18,11 @@ use Rattle.st_rules.proofs.Booleans.{true≢false, false≢true, none≢some, so
 use Rattle.st_values.specs.Program.{Class, Program, class_at, chain_of, conforming, conforms_as, conforms}
 use Rattle.st_values.specs.View.{program_of}
 use Rattle.st_frame.specs.Footprint.{Has}
-use Rattle.program_tables.proofs.ClassLaws.{past_end, class_is_there, no_interface, count_classes}
+use Rattle.program_tables.proofs.ClassLaws.{past_end, class_is_there, no_interface}
 use Rattle.program_tables.proofs.RoutineLaws.{below}
 use Rattle.program_tables.proofs.TableLaws.{among_passing}
 use Rattle.st_frame.proofs.Footprints.{has_left, has_right, has_either, has_any, any_has}
-use Rattle.reached_routines.specs.Conformers.{classes_of, AreConformers}
+use Rattle.reached_routines.specs.Conformers.{AreConformers}
 use Rattle.reached_routines.specs.declared.conformers.Conformers.{Conformers}
 use Rattle.reached_routines.specs.Families.{Family, family_of, kind_of, same_family}
 use Rattle.reached_routines.specs.Private.Families.{numbers_of, classes_at, classes_if, IsNoted, NotesBut, Nothing, IsClassIn, IsConformedTo, IsInterfaceUpTo, Conforms, AreFamilies}

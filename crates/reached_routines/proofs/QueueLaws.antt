@@ -1,5 +1,5 @@
 -- What stands in the queue, and that all that is reached does at its end.
-use Rattle.std.proofs.Common.{◌≡◌, ◌<◌, ◌≤◌, ℕ, zero, suc, ◌+◌, List, [], ◌∷◌, length, Option, Some, None, refl, sym, ap, ◌∙◌, subst, ◌⊎◌, inl, inr, ⊎_elim, arith}
+use Rattle.std.proofs.Common.{◌≡◌, ◌<◌, ◌≤◌, ℕ, ◌+◌, List, [], length, Some, None, refl, sym, ◌∙◌, subst, ⊎_elim, arith}
 use Rattle.std.specs.Prelude.{slice_get}
 use Rattle.std.proofs.lemmas.Option.{slice_get_within}
 use Rattle.st_tree.specs.declared.program.Program.{Program as CheckedProgram}
@@ -7,8 +7,8 @@ use Rattle.st_rules.proofs.Booleans.{none≢some, some-same}
 use Rattle.st_values.specs.Program.{Routine, Program}
 use Rattle.st_values.specs.View.{program_of}
 use Rattle.st_meaning.specs.Enter.{programs_of}
-use Rattle.st_frame.specs.Use.{Called, calls, routine_uses}
-use Rattle.st_frame.specs.Footprint.{Has, Enters, Reached, begins, called}
+use Rattle.st_frame.specs.Use.{calls, routine_uses}
+use Rattle.st_frame.specs.Footprint.{Has, Reached, begins, called}
 use Rattle.program_tables.specs.Routine.{routine_of}
 use Rattle.program_tables.specs.declared.routine.RoutineId.{RoutineId}
 use Rattle.program_tables.proofs.ClassLaws.{past_end, within_get}

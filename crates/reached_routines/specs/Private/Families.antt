@@ -1,5 +1,5 @@
 -- The classes of each class and interface, as they are noted.
-use Rattle.std.specs.Prelude.{◌≡◌, ℕ, ◌<◌, Bool, true, false, ◌++◌, ◌⊎◌, if◌then◌else◌, List, [], ◌∷◌, Option, Some, None, IsTrue}
+use Rattle.std.specs.Prelude.{◌≡◌, ℕ, ◌<◌, true, false, ◌++◌, ◌⊎◌, if◌then◌else◌, List, [], ◌∷◌, Option, Some, None, IsTrue}
 use Rattle.std.specs.HashMap.{HashMap, get}
 use Rattle.st_types.specs.declared.st_type.StType.TheVariants as type
 use Rattle.st_values.specs.Program.{Program, conforms}
