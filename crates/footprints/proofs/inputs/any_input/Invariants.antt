@@ -1,0 +1,7 @@
+use Rattle.std.proofs.Common.{◌≡◌, drop}
+use Rattle.st_initial.specs.Variables.{variables_of}
+use Rattle.footprints.specs.Private.Inputs.{any_input}
+use Rattle.footprints.proofs.inputs.any_input.Given as goal
+
+abbrev pub invariant-loop-variable : goal.invariant-loop-variable
+invariant-loop-variable l = any_input (variables_of (drop l.variable-index l.variables)) ≡ any_input (variables_of l.variables)

@@ -1,0 +1,9 @@
+use Rattle.std.proofs.Common.{◌≡◌, length}
+use Rattle.footprints.specs.Private.Puts.{Takes}
+use Rattle.footprints.proofs.marks.put_all.Given as goal
+
+abbrev pub invariant-regions : goal.invariant-regions
+invariant-regions l = Takes (λ x r. r ≡ x) l.regions l.left l.fn.marks.keys l.marks.keys
+
+abbrev pub decreases-regions : goal.decreases-regions
+decreases-regions l = length l.left

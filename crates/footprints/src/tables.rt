@@ -1,0 +1,63 @@
+//! All that footprints go by, found once for a program.
+
+ghost use Rattle.std.specs.Prelude.{◌≡◌, IfOk};
+ghost use Rattle.footprints.specs.Private.Tables.{AreTables};
+
+use crate::holders::holders;
+use crate::inputs::inputs;
+use plc_text::{Items, NoMemory};
+use program_tables::ProgramTables;
+use reached_routines::Conformers;
+use region_instances::RegionInstances;
+use routine_tables::{RoutineTables, routine_tables};
+use signature_tables::{SignatureTables, signature_tables};
+use st_tree::Program;
+use std::alloc::Global;
+
+/// Tables of a program.
+#[derive(Drop)]
+pub struct Tables<'p> {
+    pub program: &'p Program,
+    pub tables: ProgramTables,
+    pub routines: RoutineTables<'p>,
+    pub signatures: SignatureTables,
+    pub conformers: Conformers,
+    /// The regions that hold instances of each class.
+    pub holders: Vec<Items<u32>>,
+    /// Whether each region holds an input.
+    pub inputs: Vec<bool>,
+}
+
+fn narrowed(number: usize) -> Result<u32, NoMemory>
+    ensures { IfOk result (λ n. n ≡ number) }
+{
+    match u32::try_from(number) {
+        Ok(n) => Ok(n),
+        Err(_) => Err(NoMemory),
+    }
+}
+
+/// The tables of a program.
+pub fn build_tables(alloc: Global, program: &Program) -> Result<Tables<'_>, NoMemory>
+    ensures tables { IfOk result (λ made. AreTables made) }
+    ensures program { IfOk result (λ made. made.program.now ≡ program.now) }
+{
+    let tables = ProgramTables::build(alloc, program)?;
+    let routines = routine_tables(alloc, &tables, program)?;
+    let signatures = signature_tables(alloc, program)?;
+    let conformers = Conformers::build(alloc, &tables, program)?;
+    let instances = RegionInstances::build(alloc, program)?;
+    let regions = narrowed(program.regions.len())?;
+    let classes = narrowed(tables.class_count())?;
+    let holders = holders(alloc, &instances, regions, classes)?;
+    let inputs = inputs(alloc, program)?;
+    Ok(Tables {
+        program,
+        tables,
+        routines,
+        signatures,
+        conformers,
+        holders,
+        inputs,
+    })
+}

@@ -1,0 +1,5 @@
+pub mod AddLaws
+pub mod FamilyLaws
+pub mod AskLaws
+pub mod EnterLaws
+pub mod QueueLaws

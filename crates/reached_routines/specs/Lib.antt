@@ -1,0 +1,4 @@
+pub mod Families
+pub mod Conformers
+pub mod Reached
+pub mod Private

@@ -1,0 +1,5 @@
+-- The words of private contracts.
+pub mod Families
+pub mod Adds
+pub mod Asked
+pub mod Serves
