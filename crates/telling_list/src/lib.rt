@@ -1,0 +1,6 @@
+//! What can be told of a unit, one by one, and why it may be told in any order.
+#![tactic(auto)]
+
+mod laws;
+
+pub use laws::job_laws;
