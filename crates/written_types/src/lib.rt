@@ -1,0 +1,11 @@
+//! Types as they are written, and values of constants, where they can be told (IEC 61131-3:2013, 6.4 and 6.5.1.4).
+#![tactic(auto)]
+
+mod arrays;
+mod constants;
+mod types;
+mod values;
+
+pub use constants::constant_of;
+pub use types::type_written;
+pub use values::{bound_value, told_value};

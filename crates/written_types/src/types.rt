@@ -1,0 +1,83 @@
+//! Types as they are written.
+
+ghost use Rattle.std.specs.Prelude.{◌≡◌, IfOk, option_and_then};
+ghost use Rattle.st_rules.specs.Expressions as expressions;
+ghost use Rattle.declared_names.specs.WrittenTypes as written;
+ghost use Rattle.constant_values.specs.ValueLaws.{ValuesHaveTypes};
+
+use crate::arrays::in_arrays;
+use plc_text::{NoMemory, Text};
+use st_scope::Scope;
+use st_tree::{SimpleSpec, TypeSpec};
+use st_types::StType;
+use std::alloc::Global;
+
+fn copied(alloc: Global, kind: &Option<StType>) -> Result<Option<StType>, NoMemory>
+    ensures { IfOk result (λ t. t ≡ kind.now) }
+{
+    match kind {
+        Some(kind) => {
+            let copy = kind.copy(alloc)?;
+            Ok(Some(copy))
+        }
+        None => Ok(None),
+    }
+}
+
+/// The type that a name means in a type's place, where it is told.
+fn named_type(alloc: Global, s: &Scope<'_>, name: &Text) -> Result<Option<StType>, NoMemory>
+    ensures { IfOk result (λ t. t ≡ written.named_type s.now name.now) }
+{
+    match s.type_named(name) {
+        Some(found) => {
+            let kind = copied(alloc, &found.kind)?;
+            Ok(kind)
+        }
+        None => Ok(None),
+    }
+}
+
+fn reference_to(kind: Option<StType>) -> Option<StType>
+    ensures { result ≡ option_and_then expressions.reference_to kind }
+{
+    match kind {
+        Some(StType::Instance(class)) => Some(StType::Reference(class)),
+        Some(_) => None,
+        None => None,
+    }
+}
+
+/// What the innermost array of a type is of.
+fn element_written(
+    alloc: Global,
+    s: &Scope<'_>,
+    element: &SimpleSpec<u32>,
+) -> Result<Option<StType>, NoMemory>
+    ensures { IfOk result (λ t. t ≡ written.element_written s.now element.now) }
+{
+    match element {
+        SimpleSpec::Elementary(_, kind) => Ok(Some(StType::Elementary(*kind))),
+        SimpleSpec::Named(_, name) => {
+            let kind = named_type(alloc, s, name)?;
+            Ok(kind)
+        }
+        SimpleSpec::Reference(_, _, name) => {
+            let kind = named_type(alloc, s, name)?;
+            Ok(reference_to(kind))
+        }
+    }
+}
+
+/// The type that is written, where it can be told. Arrays in one another are told up to 65; it takes time linear in the text.
+#[tactic(auto, unfolding(declared_names::specs::WrittenTypes::type_written))]
+pub fn type_written(
+    alloc: Global,
+    s: &Scope<'_>,
+    spec: &TypeSpec<u32>,
+) -> Result<Option<StType>, NoMemory>
+    ensures { IfOk result (λ t. ValuesHaveTypes s.now → t ≡ written.type_written s.now spec.now) }
+{
+    let element = element_written(alloc, s, &spec.element)?;
+    let kind = in_arrays(alloc, s, spec.arrays.as_slice(), element)?;
+    Ok(kind)
+}

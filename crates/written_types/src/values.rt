@@ -1,0 +1,99 @@
+//! Values of constant expressions, where they can be told.
+
+ghost use Rattle.std.specs.Prelude.{◌≡◌, None, IfOk};
+ghost use Rattle.st_tree.specs.Expression.{expression_of};
+ghost use Rattle.st_rules.specs.Expressions as expressions;
+ghost use Rattle.st_rules.specs.Faults.{least};
+ghost use Rattle.st_expr_parts.specs.Found.{Finds};
+ghost use Rattle.declared_names.specs.Constants as constants;
+ghost use Rattle.declared_names.specs.WrittenTypes as written;
+ghost use Rattle.constant_values.specs.Outcome.{outcome};
+ghost use Rattle.constant_values.specs.Noted.{noted_value as value_noted};
+ghost use Rattle.constant_values.specs.ValueLaws.{ValuesHaveTypes, AsksForTold};
+ghost use Rattle.written_types.specs.Private.Values as own;
+
+use constant_rules::constant_part_fault;
+use constant_values::{Outcome, noted_value};
+use plc_text::{Code, NoMemory};
+use st_check_expr::check_whole;
+use st_expr_parts::Checked;
+use st_operators::is_number;
+use st_rules::Asked;
+use st_scope::Scope;
+use st_tree::Expr;
+use st_types::StType;
+use std::alloc::Global;
+use told_expressions::names_are_told;
+
+/// The number, where no rule is broken.
+fn found_value(
+    least: Option<(Code, u32)>,
+    part: Option<(Code, u32)>,
+    value: Outcome,
+) -> Option<i128>
+    ensures { result ≡ own.found_value least part (outcome value) }
+{
+    if least.is_some() {
+        return None;
+    }
+    if part.is_some() {
+        return None;
+    }
+    match value {
+        Outcome::Number(z) => Some(z),
+        Outcome::DividesByZero(_) => None,
+        Outcome::Untold => None,
+    }
+}
+
+/// The value of a checked expression, where it breaks no rule of constants.
+fn value_of(s: &Scope<'_>, e: &Expr<u32>, checked: &Checked) -> Option<i128>
+    ensures { result ≡ own.found_value checked.now.least (least (constants.no_constant_part s.now (expression_of e.now))) (value_noted (expression_of checked.now.tree)) }
+{
+    let part = constant_part_fault(s, e);
+    let value = noted_value(&checked.tree);
+    found_value(checked.least, part, value)
+}
+
+/// The value of a constant expression, where all its names are told and it breaks no rule.
+pub fn told_value(
+    alloc: Global,
+    s: &Scope<'_>,
+    e: &Expr<u32>,
+    asked: &Asked,
+) -> Result<Option<i128>, NoMemory>
+    ensures { IfOk result (λ v. ValuesHaveTypes s.now → AsksForTold asked.now → v ≡ constants.told_value s.now asked.now (expression_of e.now)) }
+{
+    if !names_are_told(s, e) {
+        return Ok(None);
+    }
+    let checked = check_whole(alloc, s, e, asked)?;
+    let value = value_of(s, e, &checked);
+    Ok(value)
+}
+
+/// Whether the type is one of integers or bit strings.
+fn is_number_type(kind: &Option<StType>) -> bool
+    ensures { result ≡ written.is_number_type kind.now }
+{
+    match kind {
+        Some(StType::Elementary(e)) => is_number(*e),
+        Some(_) => false,
+        None => false,
+    }
+}
+
+/// The value of a bound, where it is an integer or a bit string that can be told.
+pub fn bound_value(alloc: Global, s: &Scope<'_>, e: &Expr<u32>) -> Result<Option<i128>, NoMemory>
+    ensures { IfOk result (λ v. ValuesHaveTypes s.now → v ≡ written.bound_value s.now (expression_of e.now)) }
+{
+    if !names_are_told(s, e) {
+        return Ok(None);
+    }
+    let checked = check_whole(alloc, s, e, &Asked::Anything)?;
+    if !is_number_type(&checked.told) {
+        return Ok(None);
+    }
+    let value = value_of(s, e, &checked);
+    Ok(value)
+}
