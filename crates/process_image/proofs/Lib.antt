@@ -1,0 +1,4 @@
+pub mod ByteLaws
+pub mod InputLaws
+pub mod LocatedLaws
+pub mod ShownLaws
