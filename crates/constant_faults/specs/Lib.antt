@@ -1,0 +1,4 @@
+pub mod Valued
+pub mod Rows
+pub mod Faults
+pub mod Private

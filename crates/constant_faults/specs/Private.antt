@@ -1,0 +1,4 @@
+-- The words of private contracts.
+pub mod Rows
+pub mod Operands
+pub mod Leaves

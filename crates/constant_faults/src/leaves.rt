@@ -1,0 +1,47 @@
+//! Expressions in whose value no other expression counts: literals, places, enumerators, REF and TIME().
+
+ghost use Rattle.std.specs.Prelude.{◌≡◌, true, pos, neg_ℤ, IfOk};
+ghost use Rattle.st_tree.specs.Expression.{expression_of};
+ghost use Rattle.st_tree.specs.Number.{number_of};
+ghost use Rattle.st_rules.specs.Literals as literals;
+ghost use Rattle.declared_names.specs.Constants.{literal_outcome};
+ghost use Rattle.constant_values.specs.Outcome.{outcome};
+ghost use Rattle.constant_faults.specs.Valued.{IsWorth};
+ghost use Rattle.constant_faults.specs.Private.Leaves.{is_leaf};
+
+use crate::valued::Valued;
+use constant_values::{negative_value, noted_value};
+use plc_text::{NoMemory, Text};
+use st_check_expr::check;
+use st_expr_parts::Checked;
+use st_operators::negative_type;
+use st_rules::Asked;
+use st_scope::Scope;
+use st_tree::Expr;
+use std::alloc::Global;
+
+/// The type and value of such an expression, by its typed tree.
+pub fn leaf(alloc: Global, s: &Scope<'_>, e: &Expr<u32>, asked: &Asked) -> Result<Valued, NoMemory>
+    requires { is_leaf (expression_of e.now) ≡ true }
+    ensures { IfOk result (λ v. IsWorth v s.now asked.now (expression_of e.now)) }
+{
+    let x = check(alloc, s, e, asked)?;
+    let Checked {
+        told,
+        least: _,
+        tree,
+    } = x;
+    let value = noted_value(&tree);
+    Ok(Valued { told, value })
+}
+
+/// `-` before an int.
+pub fn negative(digits: &Text, asked: &Asked) -> Valued
+    ensures told { result.told ≡ literals.negative_type asked.now }
+    ensures value { outcome result.value ≡ literal_outcome (neg_ℤ (pos (number_of digits.now))) }
+{
+    Valued {
+        told: negative_type(asked),
+        value: negative_value(digits.as_str()),
+    }
+}
