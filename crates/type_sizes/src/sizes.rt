@@ -76,6 +76,13 @@ impl TypeSizes {
         self.has_depth(65, kind)
     }
 
+    /// Whether more than 63 steps lead there: as many as a variable of a program may have, whose instance is one step more.
+    pub fn is_too_deep_in_program(&self, kind: &StType) -> bool
+        ensures { (s : Scope) → Measures self.now s → result ≡ limits.has_depth s 64 kind.now }
+    {
+        self.has_depth(64, kind)
+    }
+
     /// Whether so many steps of containment lead from the type to an array, a structure or an instance.
     fn has_depth(&self, steps: u32, kind: &StType) -> bool
         ensures { (s : Scope) → Measures self.now s → steps < 66 → result ≡ limits.has_depth s steps kind.now }

@@ -1,0 +1,3 @@
+pub mod HeightLaws
+pub mod TopLaws
+pub mod WayLaws

@@ -1,0 +1,5 @@
+pub mod Parts
+pub mod CountLaws
+pub mod ListLaws
+pub mod NodeLaws
+pub mod ValueLaws

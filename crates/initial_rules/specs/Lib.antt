@@ -1,0 +1,5 @@
+pub mod Lent
+pub mod Fields
+pub mod Walk
+pub mod Worth
+pub mod Private

@@ -1,0 +1,11 @@
+//! What can be told of a unit, in groups that are told together, in an order of need (IEC 61131-3:2013, 6.4 and 6.5.1.4).
+#![tactic(auto)]
+
+mod arranged;
+mod groups;
+mod order;
+#[cfg(test)]
+mod tests;
+
+pub use arranged::arrange_groups;
+pub use groups::Group;

@@ -1,0 +1,11 @@
+//! What is told together, by example.
+
+use crate::arrange_groups;
+use std::test::Fail;
+
+#[test]
+fn nothing_of_a_unit_without_declarations(rt: HostRuntime) -> Result<(), Fail> {
+    let groups = arrange_groups(rt.alloc(), &[])?;
+    assert!(rt; groups.is_empty());
+    Ok(())
+}

@@ -1,0 +1,79 @@
+//! What stands around a routine or a program, and what it declares in a scope.
+
+ghost use Rattle.std.specs.Prelude.{◌≡◌, IfOk};
+ghost use Rattle.told_laws.specs.ToldLaws.{Every, TellsKind};
+ghost use Rattle.constant_values.specs.ValueLaws.{ValuesHaveTypes};
+ghost use Rattle.told_locals.specs.Around.{IsAround, declared_in};
+ghost use Rattle.told_locals.specs.Private.Rounds.{scope_with};
+
+use class_tables::ClassTables;
+use declared_variables::{declared_locals, declared_program};
+use iface_tables::IfaceTables;
+use plc_series::Series;
+use plc_text::NoMemory;
+use st_rules::DeclaredVariable;
+use st_scope::{NameTables, Scope};
+use st_tree::{Name, Section, TypeSpec};
+use std::alloc::Global;
+
+/// What stands around a routine or a program: the tables of the unit, the class, where it is in one, and whether it is a method.
+#[derive(Clone, Copy)]
+pub struct Around<'a> {
+    pub names: &'a NameTables,
+    pub classes: &'a ClassTables,
+    pub interfaces: &'a IfaceTables,
+    pub class: Option<u32>,
+    pub in_method: bool,
+}
+
+/// What declares locals: a function, a method or a method of an interface by its name, its result and its sections, or a program.
+#[derive(Clone, Copy)]
+pub enum Declaring<'a> {
+    Routine(&'a Name, &'a Option<TypeSpec<u32>>, &'a [Section<u32>]),
+    Program(&'a [Section<u32>]),
+}
+
+/// What is declared in a scope.
+fn declared(
+    alloc: Global,
+    s: &Scope<'_>,
+    of: &Declaring<'_>,
+) -> Result<Series<DeclaredVariable>, NoMemory>
+    requires { ValuesHaveTypes s.now }
+    ensures { IfOk result (λ vs. vs ≡ declared_in of.now s.now) }
+{
+    match of {
+        Declaring::Routine(name, result_type, sections) => {
+            let list = declared_locals(alloc, s, *name, *result_type, *sections)?;
+            Ok(list)
+        }
+        Declaring::Program(sections) => {
+            let list = declared_program(alloc, s, *sections)?;
+            Ok(list)
+        }
+    }
+}
+
+/// What is declared where these locals are known.
+pub fn declared_with(
+    alloc: Global,
+    around: &Around<'_>,
+    of: &Declaring<'_>,
+    known: &[DeclaredVariable],
+) -> Result<Series<DeclaredVariable>, NoMemory>
+    requires around { IsAround around.now }
+    requires kinds { Every TellsKind known.now }
+    ensures { IfOk result (λ vs. vs ≡ declared_in of.now (scope_with around.now known.now)) }
+{
+    let s = Scope::within(
+        alloc,
+        around.names,
+        around.classes,
+        around.interfaces,
+        known,
+        around.class,
+        around.in_method,
+    )?;
+    let list = declared(alloc, &s, of)?;
+    Ok(list)
+}

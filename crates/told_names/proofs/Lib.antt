@@ -1,0 +1,4 @@
+pub mod FoundLaws
+pub mod TellLaws
+pub mod StateLaws
+pub mod RoundLaws

@@ -1,0 +1,4 @@
+pub mod KnownLaws
+pub mod TypeLaws
+pub mod ClassLaws
+pub mod GlobalLaws

@@ -1,0 +1,13 @@
+use Rattle.std.proofs.Common.{[], sym, ap, ◌∙◌}
+use Rattle.st_rules.specs.declared.signature.ResultType.TheVariants as outcome
+use Rattle.declared_names.specs.WrittenTypes.{type_written}
+use Rattle.declared_names.specs.UnitNames.{result_written}
+use Rattle.told_locals.specs.Around.{scope_around}
+use Rattle.told_locals.proofs.RoundLaws.{around-values}
+use Rattle.unit_names.proofs.routines.outcome.Goals as goal
+
+pub returns-in_ok-kind-in-Some : goal.returns-in_ok-kind-in-Some
+returns-in_ok-kind-in-Some c =
+    let a = c.args.around.now in
+    ap outcome.Written (c.in_ok-kind-in-Some.ensures (around-values a [] c.in_ok-s-in-Some.s c.requires tt c.in_ok-s-in-Some.ensures) ∙ ap (λ t. type_written t c.in-Some.spec) c.in_ok-s-in-Some.ensures)
+    ∙ ap (result_written (scope_around a)) (sym c.in-Some.is)
