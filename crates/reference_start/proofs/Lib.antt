@@ -1,0 +1,4 @@
+pub mod HookLaws
+pub mod InstanceLaws
+pub mod RegionLaws
+pub mod StartLaws
