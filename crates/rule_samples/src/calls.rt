@@ -1,13 +1,13 @@
 //! Calls, by example: outside of classes, with a function F, a function block K and a class C.
 
-use crate::{
-    Callee, called_root_fault, callee_at, callee_fault, callee_parameters, heads_of, is_assignable,
-    is_bindable, is_on_super, matches, operand_of, result_fault,
-};
 use class_tables::ClassTables;
 use iface_tables::IfaceTables;
 use plc_series::Series;
 use plc_text::{Code, Items, NoMemory, Text};
+use st_calls::{
+    Callee, called_root_fault, callee_at, callee_fault, callee_parameters, heads_of, is_assignable,
+    is_bindable, is_on_super, matches, operand_of, result_fault,
+};
 use st_lexer::{lexemes, tokens};
 use st_parser_expr::parse_expr;
 use st_rules::{

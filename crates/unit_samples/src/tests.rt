@@ -6,10 +6,10 @@ mod refused;
 mod shape;
 mod units;
 
-use crate::parse;
 use plc_text::Denied;
 use shape::shape_of;
 use st_lexer::tokens;
+use st_parser_decl::parse;
 use std::alloc::{AllocError, Global};
 use std::process::Abort;
 use std::test::Fail;

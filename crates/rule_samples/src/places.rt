@@ -1,15 +1,15 @@
 //! What stands at places, by example: in a method of the class B, which extends A.
 
-use crate::{
-    Standing, conversion_named, placed, root_fault, root_standing, selected, selector_fault,
-    target_fault, whole_fault, whole_target,
-};
 use class_tables::ClassTables;
 use iface_tables::IfaceTables;
 use plc_series::Series;
 use plc_text::{Boxed, Code, Items, NoMemory, Text};
 use st_lexer::{lexemes, tokens};
 use st_parser_expr::parse_expr;
+use st_places::{
+    Standing, conversion_named, placed, root_fault, root_standing, selected, selector_fault,
+    target_fault, whole_fault, whole_target,
+};
 use st_rules::{
     Access, DeclaredClass, DeclaredField, DeclaredGlobal, DeclaredNames, DeclaredRoutine,
     DeclaredType, DeclaredVariable, ResultType, TypeParts,

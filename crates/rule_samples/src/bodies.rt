@@ -1,11 +1,11 @@
 //! Bodies by example: outside of classes and in a method of the function block K, with functions F and PROC and variables of many
 //! types.
 
-use crate::check_body;
 use class_tables::ClassTables;
 use iface_tables::IfaceTables;
 use plc_series::Series;
 use plc_text::{Boxed, Code, Items, NoMemory, Text};
+use st_check_body::check_body;
 use st_check_expr::Broken;
 use st_lexer::{lexemes, tokens};
 use st_parser_decl::parse;

@@ -1,10 +1,10 @@
 //! Expressions by example: outside of classes, with functions F and PROC, a function block K and variables of many types.
 
-use crate::{Broken, check_expr};
 use class_tables::ClassTables;
 use iface_tables::IfaceTables;
 use plc_series::Series;
 use plc_text::{Boxed, Code, Items, NoMemory, Text};
+use st_check_expr::{Broken, check_expr};
 use st_lexer::{lexemes, tokens};
 use st_parser_expr::parse_expr;
 use st_rules::{

@@ -1,6 +1,5 @@
 //! What names mean, by example: in a method of the class B, which extends A.
 
-use crate::{Meant, NameTables, Qualifier, Scope};
 use class_tables::ClassTables;
 use iface_tables::IfaceTables;
 use plc_series::Series;
@@ -9,6 +8,7 @@ use st_rules::{
     Access, DeclaredClass, DeclaredGlobal, DeclaredNames, DeclaredRoutine, DeclaredType,
     DeclaredVariable, ResultType, TypeParts,
 };
+use st_scope::{Meant, NameTables, Qualifier, Scope};
 use st_tree::{ClassDecl, ClassSort, Decl, Member, Method, Name, SectionSort, Target, Unit, Used};
 use st_types::{Elem, StType};
 use std::alloc::Global;
