@@ -1,51 +1,21 @@
-//! Calls, by example: outside of classes, with a function F, a function block K and a class C.
+//! Calls by example, outside of classes.
 
+use crate::setup::{PLANT, unit};
 use class_tables::ClassTables;
 use iface_tables::IfaceTables;
-use plc_series::Series;
-use plc_text::{Code, Items, NoMemory, Text};
+use plc_text::{Code, Items, NoMemory};
 use st_calls::{
-    Callee, called_root_fault, callee_at, callee_fault, callee_parameters, heads_of, is_assignable,
+    called_root_fault, callee_at, callee_fault, callee_parameters, heads_of, is_assignable,
     is_bindable, is_on_super, matches, operand_of, result_fault,
 };
 use st_lexer::{lexemes, tokens};
 use st_parser_expr::parse_expr;
-use st_rules::{
-    Access, DeclaredClass, DeclaredGlobal, DeclaredNames, DeclaredRoutine, DeclaredVariable,
-    ResultType,
-};
 use st_scope::{NameTables, Scope};
-use st_tree::{Argument, ClassDecl, ClassSort, Decl, Expr, Name, Place, SectionSort, Target, Unit};
+use st_tree::{Argument, Expr, Place};
 use st_types::{Elem, StType};
 use std::alloc::Global;
 use std::test::Fail;
-
-fn name(alloc: Global, text: &str) -> Result<Name, NoMemory> {
-    Ok(Name {
-        text: Text::copy(alloc, text)?,
-        line: 1,
-    })
-}
-
-fn class_decl(alloc: Global, sort: ClassSort, text: &str) -> Result<Decl<u32>, NoMemory> {
-    Ok(Decl::Class(ClassDecl {
-        line: 1,
-        sort,
-        modifiers: Items::new(alloc),
-        name: name(alloc, text)?,
-        base: None,
-        interfaces: Items::new(alloc),
-        members: Items::new(alloc),
-        body: Items::new(alloc),
-    }))
-}
-
-fn unit(alloc: Global) -> Result<Unit, NoMemory> {
-    let mut decls = Items::new(alloc);
-    decls.push(class_decl(alloc, ClassSort::FunctionBlock, "K")?)?;
-    decls.push(class_decl(alloc, ClassSort::Class, "C")?)?;
-    Ok(Unit { decls })
-}
+use unit_names::unit_names;
 
 fn call(alloc: Global, text: &str) -> Result<(Place<u32>, Items<Argument<u32>>), NoMemory> {
     let found = match tokens(alloc, text) {
@@ -57,76 +27,6 @@ fn call(alloc: Global, text: &str) -> Result<(Place<u32>, Items<Argument<u32>>),
         Ok((Expr::Call(_, place, arguments), _)) => Ok((place, arguments)),
         _ => Err(NoMemory),
     }
-}
-
-fn variable(
-    alloc: Global,
-    text: &str,
-    sort: SectionSort,
-    kind: StType,
-) -> Result<DeclaredVariable, NoMemory> {
-    Ok(DeclaredVariable {
-        name: Text::copy(alloc, text)?,
-        sort,
-        constant: false,
-        access: Access::Public,
-        located_input: false,
-        kind: Some(kind),
-        target: Target::Variable(0),
-    })
-}
-
-/// An input A, an in-out IO and an output Q.
-fn parameters(alloc: Global) -> Result<Series<DeclaredVariable>, NoMemory> {
-    let int = Elem::Int;
-    let mut all = Series::new(alloc);
-    all.push(variable(alloc, "A", SectionSort::Input, StType::Elementary(int))?)?;
-    all.push(variable(alloc, "IO", SectionSort::InOut, StType::Elementary(int))?)?;
-    all.push(variable(alloc, "Q", SectionSort::Output, StType::Elementary(int))?)?;
-    Ok(all)
-}
-
-fn declared_class(
-    alloc: Global,
-    sort: ClassSort,
-    variables: Series<DeclaredVariable>,
-) -> Result<DeclaredClass, NoMemory> {
-    Ok(DeclaredClass {
-        sort,
-        variables,
-        methods: Items::new(alloc),
-    })
-}
-
-fn global(alloc: Global, text: &str, kind: StType) -> Result<DeclaredGlobal, NoMemory> {
-    Ok(DeclaredGlobal::Variable(variable(alloc, text, SectionSort::Global, kind)?))
-}
-
-fn names(alloc: Global) -> Result<DeclaredNames, NoMemory> {
-    let mut classes = Series::new(alloc);
-    classes.push(declared_class(alloc, ClassSort::FunctionBlock, parameters(alloc)?)?)?;
-    classes.push(declared_class(alloc, ClassSort::Class, Series::new(alloc))?)?;
-    let mut globals = Series::new(alloc);
-    globals.push(global(alloc, "G", StType::Elementary(Elem::Int))?)?;
-    globals.push(global(alloc, "BK", StType::Instance(0))?)?;
-    globals.push(global(alloc, "CI", StType::Instance(1))?)?;
-    globals.push(DeclaredGlobal::Function(
-        0,
-        DeclaredRoutine {
-            name: Text::copy(alloc, "F")?,
-            access: Access::Public,
-            abstract_method: false,
-            outcome: ResultType::Written(Some(StType::Elementary(Elem::Int))),
-            parameters: parameters(alloc)?,
-        },
-    ))?;
-    Ok(DeclaredNames {
-        types: Series::new(alloc),
-        parts: Items::new(alloc),
-        classes,
-        interfaces: Items::new(alloc),
-        globals,
-    })
 }
 
 /// Calls, the rule that they break by what is called and how the arguments are written, whether they give a value, and for which
@@ -161,10 +61,11 @@ const CALLS: [(&str, Option<Code>, bool, usize); 24] = [
 #[test]
 fn calls_outside_of_classes(rt: HostRuntime) -> Result<(), Fail> {
     let alloc = rt.alloc();
-    let unit = unit(alloc)?;
+    let unit = unit(alloc, PLANT)?;
     let classes = ClassTables::build(alloc, &unit)?;
     let interfaces = IfaceTables::build(alloc, &unit)?;
-    let tables = NameTables::build(alloc, &unit, &classes, names(alloc)?)?;
+    let names = unit_names(alloc, &unit, &classes, &interfaces)?;
+    let tables = NameTables::build(alloc, &unit, &classes, names)?;
     let s = Scope::within(alloc, &tables, &classes, &interfaces, &[], None, false)?;
     for (text, code, gives, first) in &CALLS {
         let (p, arguments) = call(alloc, text)?;

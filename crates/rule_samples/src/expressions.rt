@@ -1,161 +1,19 @@
-//! Expressions by example: outside of classes, with functions F and PROC, a function block K and variables of many types.
+//! Expressions by example, outside of classes.
 
+use crate::setup::{PLANT, unit};
 use class_tables::ClassTables;
 use iface_tables::IfaceTables;
-use plc_series::Series;
-use plc_text::{Boxed, Code, Items, NoMemory, Text};
+use plc_text::{Code, NoMemory};
 use st_check_expr::{Broken, check_expr};
 use st_lexer::{lexemes, tokens};
 use st_parser_expr::parse_expr;
-use st_rules::{
-    Access, Asked, DeclaredClass, DeclaredGlobal, DeclaredNames, DeclaredRoutine, DeclaredType,
-    DeclaredVariable, ResultType, TypeParts,
-};
+use st_rules::Asked;
 use st_scope::{NameTables, Scope};
-use st_tree::{ClassDecl, ClassSort, Decl, Expr, Name, Note, SectionSort, Target, Unit};
+use st_tree::{Expr, Note};
 use st_types::{Elem, StType};
 use std::alloc::Global;
 use std::test::Fail;
-
-fn unit(alloc: Global) -> Result<Unit, NoMemory> {
-    let mut decls = Items::new(alloc);
-    decls.push(Decl::Class(ClassDecl {
-        line: 1,
-        sort: ClassSort::FunctionBlock,
-        modifiers: Items::new(alloc),
-        name: Name {
-            text: Text::copy(alloc, "K")?,
-            line: 1,
-        },
-        base: None,
-        interfaces: Items::new(alloc),
-        members: Items::new(alloc),
-        body: Items::new(alloc),
-    }))?;
-    Ok(Unit { decls })
-}
-
-fn variable(
-    alloc: Global,
-    text: &str,
-    sort: SectionSort,
-    kind: Option<StType>,
-) -> Result<DeclaredVariable, NoMemory> {
-    Ok(DeclaredVariable {
-        name: Text::copy(alloc, text)?,
-        sort,
-        constant: false,
-        access: Access::Public,
-        located_input: false,
-        kind,
-        target: Target::Variable(0),
-    })
-}
-
-fn elementary(kind: Elem) -> Option<StType> {
-    Some(StType::Elementary(kind))
-}
-
-/// An input A, an in-out IO and an output Q.
-fn parameters(alloc: Global) -> Result<Series<DeclaredVariable>, NoMemory> {
-    let mut all = Series::new(alloc);
-    all.push(variable(alloc, "A", SectionSort::Input, elementary(Elem::Int))?)?;
-    all.push(variable(alloc, "IO", SectionSort::InOut, elementary(Elem::Int))?)?;
-    all.push(variable(alloc, "Q", SectionSort::Output, elementary(Elem::Int))?)?;
-    Ok(all)
-}
-
-fn function(
-    alloc: Global,
-    number: u32,
-    text: &str,
-    outcome: ResultType,
-    parameters: Series<DeclaredVariable>,
-) -> Result<DeclaredGlobal, NoMemory> {
-    Ok(DeclaredGlobal::Function(
-        number,
-        DeclaredRoutine {
-            name: Text::copy(alloc, text)?,
-            access: Access::Public,
-            abstract_method: false,
-            outcome,
-            parameters,
-        },
-    ))
-}
-
-/// Variables of elementary types.
-const VARIABLES: [(&str, Elem); 13] = [
-    ("B", Elem::Bool),
-    ("SI", Elem::Sint),
-    ("I", Elem::Int),
-    ("D", Elem::Dint),
-    ("L", Elem::Lint),
-    ("US", Elem::Usint),
-    ("UI", Elem::Uint),
-    ("UD", Elem::Udint),
-    ("UL", Elem::Ulint),
-    ("BX", Elem::Byte),
-    ("W", Elem::Word),
-    ("TI", Elem::Time),
-    ("TJ", Elem::Time),
-];
-
-fn globals(alloc: Global) -> Result<Series<DeclaredGlobal>, NoMemory> {
-    let mut all = Series::new(alloc);
-    for (name, kind) in &VARIABLES {
-        let one = variable(alloc, name, SectionSort::Global, elementary(*kind))?;
-        all.push(DeclaredGlobal::Variable(one))?;
-    }
-    let element = Boxed::new(alloc, StType::Elementary(Elem::Int))?;
-    let row = variable(
-        alloc,
-        "ARR",
-        SectionSort::Global,
-        Some(StType::Array(0, 3, element)),
-    )?;
-    all.push(DeclaredGlobal::Variable(row))?;
-    let block = variable(alloc, "KI", SectionSort::Global, Some(StType::Instance(0)))?;
-    all.push(DeclaredGlobal::Variable(block))?;
-    let reference = variable(alloc, "RK", SectionSort::Global, Some(StType::Reference(0)))?;
-    all.push(DeclaredGlobal::Variable(reference))?;
-    let lost = variable(alloc, "LOST", SectionSort::Global, None)?;
-    all.push(DeclaredGlobal::Variable(lost))?;
-    let mut fixed = variable(alloc, "C1", SectionSort::Global, elementary(Elem::Int))?;
-    fixed.constant = true;
-    fixed.target = Target::Constant(7);
-    all.push(DeclaredGlobal::Variable(fixed))?;
-    let int = ResultType::Written(elementary(Elem::Int));
-    all.push(function(alloc, 0, "F", int, parameters(alloc)?)?)?;
-    all.push(function(alloc, 1, "PROC", ResultType::Nothing, Series::new(alloc))?)?;
-    Ok(all)
-}
-
-fn names(alloc: Global) -> Result<DeclaredNames, NoMemory> {
-    let mut types = Series::new(alloc);
-    types.push(DeclaredType {
-        name: Text::copy(alloc, "E")?,
-        kind: Some(StType::Enumeration(0)),
-    })?;
-    let mut values = Items::new(alloc);
-    values.push(Text::copy(alloc, "RED")?)?;
-    values.push(Text::copy(alloc, "BLUE")?)?;
-    let mut parts = Items::new(alloc);
-    parts.push(TypeParts::Values(values))?;
-    let mut classes = Series::new(alloc);
-    classes.push(DeclaredClass {
-        sort: ClassSort::FunctionBlock,
-        variables: parameters(alloc)?,
-        methods: Items::new(alloc),
-    })?;
-    Ok(DeclaredNames {
-        types,
-        parts,
-        classes,
-        interfaces: Items::new(alloc),
-        globals: globals(alloc)?,
-    })
-}
+use unit_names::unit_names;
 
 fn expression(alloc: Global, text: &str) -> Result<Expr<u32>, NoMemory> {
     let found = match tokens(alloc, text) {
@@ -339,10 +197,11 @@ const BAD: [(&str, Option<Elem>, Code, u32); 68] = [
 #[test]
 fn expressions_outside_of_classes(rt: HostRuntime) -> Result<(), Fail> {
     let alloc = rt.alloc();
-    let unit = unit(alloc)?;
+    let unit = unit(alloc, PLANT)?;
     let classes = ClassTables::build(alloc, &unit)?;
     let interfaces = IfaceTables::build(alloc, &unit)?;
-    let tables = NameTables::build(alloc, &unit, &classes, names(alloc)?)?;
+    let names = unit_names(alloc, &unit, &classes, &interfaces)?;
+    let tables = NameTables::build(alloc, &unit, &classes, names)?;
     let s = Scope::within(alloc, &tables, &classes, &interfaces, &[], None, false)?;
     for (text, asked, kind) in &GOOD {
         let e = expression(alloc, text)?;
@@ -374,10 +233,11 @@ fn sum(alloc: Global, operators: u32) -> Result<Expr<u32>, NoMemory> {
 #[test]
 fn operators_up_to_the_limit(rt: HostRuntime) -> Result<(), Fail> {
     let alloc = rt.alloc();
-    let unit = unit(alloc)?;
+    let unit = unit(alloc, PLANT)?;
     let classes = ClassTables::build(alloc, &unit)?;
     let interfaces = IfaceTables::build(alloc, &unit)?;
-    let tables = NameTables::build(alloc, &unit, &classes, names(alloc)?)?;
+    let names = unit_names(alloc, &unit, &classes, &interfaces)?;
+    let tables = NameTables::build(alloc, &unit, &classes, names)?;
     let s = Scope::within(alloc, &tables, &classes, &interfaces, &[], None, false)?;
     let most = sum(alloc, 256)?;
     assert!(rt; check_expr(alloc, &s, &most, &Asked::Anything).is_ok());

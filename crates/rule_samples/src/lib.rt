@@ -1,4 +1,5 @@
-//! What names, places, calls, expressions and bodies mean and which rules they break, by example. There is nothing but tests here.
+//! What names, places, calls, expressions and bodies of texts mean and which rules they break, by example. There is nothing but
+//! tests here.
 #![tactic(auto)]
 
 #[cfg(test)]
@@ -8,6 +9,12 @@ mod calls;
 #[cfg(test)]
 mod expressions;
 #[cfg(test)]
+mod names;
+#[cfg(test)]
 mod places;
 #[cfg(test)]
 mod scope;
+#[cfg(test)]
+mod setup;
+#[cfg(test)]
+mod told;

@@ -1,81 +1,39 @@
-//! What stands at places, by example: in a method of the class B, which extends A.
+//! Places, by example: in a method of the function block B, which extends A.
 
+use crate::setup::unit;
 use class_tables::ClassTables;
 use iface_tables::IfaceTables;
-use plc_series::Series;
-use plc_text::{Boxed, Code, Items, NoMemory, Text};
+use plc_text::{Code, NoMemory, Text};
 use st_lexer::{lexemes, tokens};
 use st_parser_expr::parse_expr;
 use st_places::{
     Standing, conversion_named, placed, root_fault, root_standing, selected, selector_fault,
     target_fault, whole_fault, whole_target,
 };
-use st_rules::{
-    Access, DeclaredClass, DeclaredField, DeclaredGlobal, DeclaredNames, DeclaredRoutine,
-    DeclaredType, DeclaredVariable, ResultType, TypeParts,
-};
 use st_scope::{NameTables, Scope};
-use st_tree::{
-    ClassDecl, ClassSort, Decl, Expr, InterfaceDecl, Member, Method, Name, Place, Prototype,
-    SectionSort, Target, Unit, Used,
-};
+use st_tree::{Expr, Place, Target};
 use st_types::{Elem, StType};
 use std::alloc::Global;
 use std::test::Fail;
+use unit_names::unit_names;
 
-fn name(alloc: Global, text: &str) -> Result<Name, NoMemory> {
-    Ok(Name {
-        text: Text::copy(alloc, text)?,
-        line: 1,
-    })
-}
-
-fn class_decl(alloc: Global, text: &str, base: Option<Used<u32>>) -> Result<Decl<u32>, NoMemory> {
-    let mut members = Items::new(alloc);
-    members.push(Member::Method(Method {
-        line: 1,
-        modifiers: Items::new(alloc),
-        name: name(alloc, "M")?,
-        result: None,
-        sections: Items::new(alloc),
-        body: Items::new(alloc),
-    }))?;
-    Ok(Decl::Class(ClassDecl {
-        line: 1,
-        sort: ClassSort::Class,
-        modifiers: Items::new(alloc),
-        name: name(alloc, text)?,
-        base,
-        interfaces: Items::new(alloc),
-        members,
-        body: Items::new(alloc),
-    }))
-}
-
-/// Class A with a method M, class B, which extends A, and an interface I with a method P.
-fn unit(alloc: Global) -> Result<Unit, NoMemory> {
-    let mut decls = Items::new(alloc);
-    decls.push(class_decl(alloc, "A", None)?)?;
-    let base = Used {
-        note: 1,
-        text: Text::copy(alloc, "A")?,
-    };
-    decls.push(class_decl(alloc, "B", Some(base))?)?;
-    let mut methods = Items::new(alloc);
-    methods.push(Prototype {
-        line: 1,
-        name: name(alloc, "P")?,
-        result: None,
-        sections: Items::new(alloc),
-    })?;
-    decls.push(Decl::Interface(InterfaceDecl {
-        line: 1,
-        name: name(alloc, "I")?,
-        bases: Items::new(alloc),
-        methods,
-    }))?;
-    Ok(Unit { decls })
-}
+const UNIT: &str = "
+TYPE E : (RED); S : STRUCT F : INT; END_STRUCT; LOST : NOWHERE; END_TYPE
+FUNCTION_BLOCK A
+VAR PRIVATE N : INT; END_VAR
+VAR_OUTPUT Q : INT; END_VAR
+METHOD M END_METHOD
+END_FUNCTION_BLOCK
+FUNCTION_BLOCK B EXTENDS A
+VAR_TEMP T : INT; END_VAR
+VAR PROTECTED OWN : INT; END_VAR
+METHOD M END_METHOD
+END_FUNCTION_BLOCK
+INTERFACE I METHOD P END_METHOD END_INTERFACE
+VAR_GLOBAL G : INT; ARR : ARRAY [0..3, 0..1] OF INT; R : REF_TO A; ST : S; V : I; END_VAR
+VAR_GLOBAL CONSTANT C : INT := 7; END_VAR
+FUNCTION FN END_FUNCTION
+";
 
 fn place(alloc: Global, text: &str) -> Result<Place<u32>, NoMemory> {
     let found = match tokens(alloc, text) {
@@ -88,125 +46,6 @@ fn place(alloc: Global, text: &str) -> Result<Place<u32>, NoMemory> {
         Ok((Expr::Call(_, place, _), _)) => Ok(place),
         _ => Err(NoMemory),
     }
-}
-
-fn int() -> StType {
-    StType::Elementary(Elem::Int)
-}
-
-fn variable(
-    alloc: Global,
-    text: &str,
-    sort: SectionSort,
-    access: Access,
-    kind: StType,
-) -> Result<DeclaredVariable, NoMemory> {
-    Ok(DeclaredVariable {
-        name: Text::copy(alloc, text)?,
-        sort,
-        constant: false,
-        access,
-        located_input: false,
-        kind: Some(kind),
-        target: Target::Variable(0),
-    })
-}
-
-fn class(
-    alloc: Global,
-    first: DeclaredVariable,
-    second: DeclaredVariable,
-) -> Result<DeclaredClass, NoMemory> {
-    let mut variables = Series::new(alloc);
-    variables.push(first)?;
-    variables.push(second)?;
-    let mut methods = Items::new(alloc);
-    methods.push(DeclaredRoutine {
-        name: Text::copy(alloc, "M")?,
-        access: Access::Public,
-        abstract_method: false,
-        outcome: ResultType::Nothing,
-        parameters: Series::new(alloc),
-    })?;
-    Ok(DeclaredClass {
-        sort: ClassSort::Class,
-        variables,
-        methods,
-    })
-}
-
-fn types(alloc: Global) -> Result<(Series<DeclaredType>, Items<TypeParts>), NoMemory> {
-    let mut types = Series::new(alloc);
-    types.push(DeclaredType {
-        name: Text::copy(alloc, "E")?,
-        kind: Some(StType::Enumeration(0)),
-    })?;
-    types.push(DeclaredType {
-        name: Text::copy(alloc, "LOST")?,
-        kind: None,
-    })?;
-    let mut values = Items::new(alloc);
-    values.push(Text::copy(alloc, "RED")?)?;
-    let mut fields = Items::new(alloc);
-    fields.push(DeclaredField {
-        name: Text::copy(alloc, "F")?,
-        kind: Some(int()),
-    })?;
-    let mut parts = Items::new(alloc);
-    parts.push(TypeParts::Values(values))?;
-    parts.push(TypeParts::Fields(fields))?;
-    Ok((types, parts))
-}
-
-fn global(alloc: Global, text: &str, kind: StType) -> Result<DeclaredGlobal, NoMemory> {
-    Ok(DeclaredGlobal::Variable(variable(alloc, text, SectionSort::Global, Access::Public, kind)?))
-}
-
-fn globals(alloc: Global) -> Result<Series<DeclaredGlobal>, NoMemory> {
-    let mut globals = Series::new(alloc);
-    globals.push(global(alloc, "G", int())?)?;
-    let row = StType::Array(0, 1, Boxed::new(alloc, int())?);
-    globals.push(global(alloc, "ARR", StType::Array(0, 3, Boxed::new(alloc, row)?))?)?;
-    globals.push(global(alloc, "R", StType::Reference(0))?)?;
-    globals.push(global(alloc, "ST", StType::Structure(1))?)?;
-    globals.push(global(alloc, "V", StType::Interface(0))?)?;
-    globals.push(DeclaredGlobal::Function(
-        0,
-        DeclaredRoutine {
-            name: Text::copy(alloc, "FN")?,
-            access: Access::Public,
-            abstract_method: false,
-            outcome: ResultType::Nothing,
-            parameters: Series::new(alloc),
-        },
-    ))?;
-    let mut fixed = variable(alloc, "C", SectionSort::Global, Access::Public, int())?;
-    fixed.constant = true;
-    fixed.target = Target::Constant(7);
-    globals.push(DeclaredGlobal::Variable(fixed))?;
-    Ok(globals)
-}
-
-fn names(alloc: Global) -> Result<DeclaredNames, NoMemory> {
-    let (types, parts) = types(alloc)?;
-    let mut classes = Series::new(alloc);
-    classes.push(class(
-        alloc,
-        variable(alloc, "N", SectionSort::Var, Access::Private, int())?,
-        variable(alloc, "Q", SectionSort::Output, Access::Public, int())?,
-    )?)?;
-    classes.push(class(
-        alloc,
-        variable(alloc, "T", SectionSort::Temp, Access::Public, int())?,
-        variable(alloc, "OWN", SectionSort::Var, Access::Protected, int())?,
-    )?)?;
-    Ok(DeclaredNames {
-        types,
-        parts,
-        classes,
-        interfaces: Items::new(alloc),
-        globals: globals(alloc)?,
-    })
 }
 
 /// What stands there, in a word.
@@ -282,10 +121,11 @@ const PLACES: [(&str, &str, Option<Code>, bool); 28] = [
 #[test]
 fn places_in_a_method(rt: HostRuntime) -> Result<(), Fail> {
     let alloc = rt.alloc();
-    let unit = unit(alloc)?;
+    let unit = unit(alloc, UNIT)?;
     let classes = ClassTables::build(alloc, &unit)?;
     let interfaces = IfaceTables::build(alloc, &unit)?;
-    let tables = NameTables::build(alloc, &unit, &classes, names(alloc)?)?;
+    let names = unit_names(alloc, &unit, &classes, &interfaces)?;
+    let tables = NameTables::build(alloc, &unit, &classes, names)?;
     let s = Scope::within(alloc, &tables, &classes, &interfaces, &[], Some(1), true)?;
     for (text, stands, code, written) in &PLACES {
         let p = place(alloc, text)?;

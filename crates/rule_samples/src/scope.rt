@@ -1,141 +1,44 @@
-//! What names mean, by example: in a method of the class B, which extends A.
+//! What names mean, by example: in a method of the function block B, which extends A.
 
+use crate::setup::unit;
 use class_tables::ClassTables;
 use iface_tables::IfaceTables;
-use plc_series::Series;
-use plc_text::{Items, NoMemory, Text};
-use st_rules::{
-    Access, DeclaredClass, DeclaredGlobal, DeclaredNames, DeclaredRoutine, DeclaredType,
-    DeclaredVariable, ResultType, TypeParts,
-};
+use plc_text::{NoMemory, Text};
+use st_rules::{Access, DeclaredVariable};
 use st_scope::{Meant, NameTables, Qualifier, Scope};
-use st_tree::{ClassDecl, ClassSort, Decl, Member, Method, Name, SectionSort, Target, Unit, Used};
+use st_tree::{SectionSort, Target};
 use st_types::{Elem, StType};
 use std::alloc::Global;
 use std::test::Fail;
+use unit_names::unit_names;
 
-fn name(alloc: Global, text: &str) -> Result<Name, NoMemory> {
-    Ok(Name {
-        text: Text::copy(alloc, text)?,
-        line: 1,
-    })
-}
+const UNIT: &str = "
+TYPE E : (RED, GREEN); E2 : (GREEN, BLUE); LOST : NOWHERE; END_TYPE
+FUNCTION_BLOCK A
+VAR PRIVATE N : INT; END_VAR
+VAR_OUTPUT Q : INT; END_VAR
+METHOD M END_METHOD
+END_FUNCTION_BLOCK
+FUNCTION_BLOCK B EXTENDS A
+VAR_TEMP T : INT; END_VAR
+VAR_EXTERNAL G : INT; END_VAR
+METHOD M END_METHOD
+END_FUNCTION_BLOCK
+VAR_GLOBAL G : INT; END_VAR
+FUNCTION F END_FUNCTION
+";
 
-fn class(alloc: Global, text: &str, base: &str) -> Result<ClassDecl<u32>, NoMemory> {
-    let mut members = Items::new(alloc);
-    members.push(Member::Method(Method {
-        line: 1,
-        modifiers: Items::new(alloc),
-        name: name(alloc, "M")?,
-        result: None,
-        sections: Items::new(alloc),
-        body: Items::new(alloc),
-    }))?;
-    Ok(ClassDecl {
-        line: 1,
-        sort: ClassSort::Class,
-        modifiers: Items::new(alloc),
-        name: name(alloc, text)?,
-        base: if base == "-" {
-            None
-        } else {
-            Some(Used {
-                note: 1,
-                text: Text::copy(alloc, base)?,
-            })
-        },
-        interfaces: Items::new(alloc),
-        members,
-        body: Items::new(alloc),
-    })
-}
-
-fn variable(
-    alloc: Global,
-    text: &str,
-    sort: SectionSort,
-    access: Access,
-) -> Result<DeclaredVariable, NoMemory> {
+/// The local variable X.
+fn local(alloc: Global) -> Result<DeclaredVariable, NoMemory> {
+    let name = Text::copy(alloc, "X")?;
     Ok(DeclaredVariable {
-        name: Text::copy(alloc, text)?,
-        sort,
+        name,
+        sort: SectionSort::Var,
         constant: false,
-        access,
+        access: Access::Public,
         located_input: false,
         kind: Some(StType::Elementary(Elem::Int)),
         target: Target::Variable(0),
-    })
-}
-
-fn declared_class(
-    alloc: Global,
-    first: DeclaredVariable,
-    second: DeclaredVariable,
-) -> Result<DeclaredClass, NoMemory> {
-    let mut variables = Series::new(alloc);
-    variables.push(first)?;
-    variables.push(second)?;
-    Ok(DeclaredClass {
-        sort: ClassSort::Class,
-        variables,
-        methods: Items::new(alloc),
-    })
-}
-
-fn values(alloc: Global, first: &str, second: &str) -> Result<TypeParts, NoMemory> {
-    let mut all = Items::new(alloc);
-    all.push(Text::copy(alloc, first)?)?;
-    all.push(Text::copy(alloc, second)?)?;
-    Ok(TypeParts::Values(all))
-}
-
-fn declared(alloc: Global) -> Result<DeclaredNames, NoMemory> {
-    let mut types = Series::new(alloc);
-    types.push(DeclaredType {
-        name: Text::copy(alloc, "E")?,
-        kind: Some(StType::Enumeration(0)),
-    })?;
-    types.push(DeclaredType {
-        name: Text::copy(alloc, "LOST")?,
-        kind: None,
-    })?;
-    let mut parts = Items::new(alloc);
-    parts.push(values(alloc, "RED", "GREEN")?)?;
-    parts.push(values(alloc, "GREEN", "BLUE")?)?;
-    let mut classes = Series::new(alloc);
-    classes.push(declared_class(
-        alloc,
-        variable(alloc, "N", SectionSort::Var, Access::Private)?,
-        variable(alloc, "Q", SectionSort::Output, Access::Public)?,
-    )?)?;
-    classes.push(declared_class(
-        alloc,
-        variable(alloc, "T", SectionSort::Temp, Access::Public)?,
-        variable(alloc, "G", SectionSort::External, Access::Public)?,
-    )?)?;
-    let mut globals = Series::new(alloc);
-    globals.push(DeclaredGlobal::Variable(variable(
-        alloc,
-        "G",
-        SectionSort::Global,
-        Access::Public,
-    )?))?;
-    globals.push(DeclaredGlobal::Function(
-        0,
-        DeclaredRoutine {
-            name: Text::copy(alloc, "F")?,
-            access: Access::Public,
-            abstract_method: false,
-            outcome: ResultType::Nothing,
-            parameters: Series::new(alloc),
-        },
-    ))?;
-    Ok(DeclaredNames {
-        types,
-        parts,
-        classes,
-        interfaces: Items::new(alloc),
-        globals,
     })
 }
 
@@ -154,16 +57,23 @@ fn word(scope: &Scope<'_>, called: bool, name: &Text) -> &'static str {
 #[test]
 fn names_in_a_method(rt: HostRuntime) -> Result<(), Fail> {
     let alloc = rt.alloc();
-    let mut decls = Items::new(alloc);
-    decls.push(Decl::Class(class(alloc, "A", "-")?))?;
-    decls.push(Decl::Class(class(alloc, "B", "A")?))?;
-    let unit = Unit { decls };
+    let unit = unit(alloc, UNIT)?;
     let classes = ClassTables::build(alloc, &unit)?;
     let interfaces = IfaceTables::build(alloc, &unit)?;
-    let names = NameTables::build(alloc, &unit, &classes, declared(alloc)?)?;
+    let names = unit_names(alloc, &unit, &classes, &interfaces)?;
+    let tables = NameTables::build(alloc, &unit, &classes, names)?;
+    let x = local(alloc)?;
     let mut locals = Vec::new(alloc);
-    locals.push(variable(alloc, "X", SectionSort::Var, Access::Public)?)?;
-    let scope = Scope::within(alloc, &names, &classes, &interfaces, &locals, Some(1), true)?;
+    locals.push(x)?;
+    let scope = Scope::within(
+        alloc,
+        &tables,
+        &classes,
+        &interfaces,
+        &locals,
+        Some(1),
+        true,
+    )?;
     let cases = [
         ("X", false, "variable"),
         ("N", false, "member"),
