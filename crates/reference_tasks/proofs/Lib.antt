@@ -1,0 +1,3 @@
+pub mod EnterLaws
+pub mod TaskLaws
+pub mod WalkSteps
