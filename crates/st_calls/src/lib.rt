@@ -9,8 +9,6 @@ mod heads;
 mod matching;
 mod names;
 mod parameters;
-#[cfg(test)]
-mod tests;
 
 pub use callee::{Callee, called_root_fault, callee_at, is_on_super};
 pub use conversions::{bound_fault, is_assignable, is_bindable, output_fault, value_fault};

@@ -4,8 +4,6 @@
 
 mod broken;
 mod expression;
-#[cfg(test)]
-mod tests;
 mod walk;
 
 pub use broken::Broken;

@@ -9,8 +9,6 @@ mod place;
 mod reading;
 mod routine;
 mod section;
-#[cfg(test)]
-mod tests;
 mod type_decl;
 mod types;
 mod unit;

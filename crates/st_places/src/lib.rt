@@ -12,8 +12,6 @@ mod places;
 mod roots;
 mod selectors;
 mod standing;
-#[cfg(test)]
-mod tests;
 
 pub use conversion::conversion_named;
 pub use fixed::{is_fixed, target_fault};

@@ -10,8 +10,6 @@ mod routines;
 mod scope;
 mod tables;
 mod telling;
-#[cfg(test)]
-mod tests;
 
 pub use scope::{Meant, Qualifier, Scope};
 pub use tables::NameTables;

@@ -1,0 +1,154 @@
+//! What the innermost array of a type is of.
+
+ghost use Rattle.std.specs.Prelude.{◌≡◌, IfOk, option_and_then};
+ghost use Rattle.st_rules.specs.Expressions as expressions;
+ghost use Rattle.st_rules.specs.Faults.{least};
+ghost use Rattle.st_tree.specs.declared.program.Target.TheVariants as targets;
+ghost use Rattle.declared_names.specs.WrittenTypes as written;
+ghost use Rattle.type_rules.specs.Private.Elements.{ElementChecks, IsElementary, IsNamed, IsReference, is_no_instance};
+
+use plc_text::{Code, NoMemory, Text};
+use st_places::note;
+use st_rules::{earlier, when};
+use st_scope::Scope;
+use st_tree::{Note, SimpleSpec, Target};
+use st_types::{Elem, StType};
+use std::alloc::Global;
+
+/// What the innermost array is of, checked.
+#[derive(Drop)]
+pub struct CheckedElement {
+    pub kind: Option<StType>,
+    pub least: Option<(Code, u32)>,
+    pub element: SimpleSpec<Note>,
+}
+
+/// The same type again, where there is one.
+pub fn copied(alloc: Global, kind: &Option<StType>) -> Result<Option<StType>, NoMemory>
+    ensures { IfOk result (λ t. t ≡ kind.now) }
+{
+    match kind {
+        Some(kind) => {
+            let copy = kind.copy(alloc)?;
+            Ok(Some(copy))
+        }
+        None => Ok(None),
+    }
+}
+
+/// A note with a type and nothing that is meant.
+pub fn noted(alloc: Global, line: u32, kind: &Option<StType>) -> Result<Note, NoMemory>
+    ensures { IfOk result (λ n. n ≡ expressions.note line kind.now targets.Nothing) }
+{
+    let kind = copied(alloc, kind)?;
+    Ok(note(line, kind, Target::Nothing))
+}
+
+/// The type that a name means in a type's place, where it is told.
+fn named_type(alloc: Global, s: &Scope<'_>, name: &Text) -> Result<Option<StType>, NoMemory>
+    ensures { IfOk result (λ t. t ≡ written.named_type s.now name.now) }
+{
+    match s.type_named(name) {
+        Some(found) => {
+            let kind = copied(alloc, &found.kind)?;
+            Ok(kind)
+        }
+        None => Ok(None),
+    }
+}
+
+fn reference_to(kind: &Option<StType>) -> Option<StType>
+    ensures { result ≡ option_and_then expressions.reference_to kind.now }
+{
+    match kind {
+        Some(StType::Instance(class)) => Some(StType::Reference(*class)),
+        Some(_) => None,
+        None => None,
+    }
+}
+
+fn is_no_instance(kind: &Option<StType>) -> bool
+    ensures { result ≡ is_no_instance kind.now }
+{
+    match kind {
+        Some(StType::Instance(_)) => false,
+        Some(_) => true,
+        None => false,
+    }
+}
+
+/// E05 where no type has the name.
+fn type_fault(line: u32, s: &Scope<'_>, name: &Text) -> Option<(Code, u32)>
+    ensures { result ≡ least (written.type_not_found s.now line name.now) }
+{
+    when(s.type_named(name).is_none(), Code::E05, line)
+}
+
+fn elementary(line: u32, kind: Elem) -> CheckedElement
+    ensures { IsElementary result line kind }
+{
+    CheckedElement {
+        kind: Some(StType::Elementary(kind)),
+        least: None,
+        element: SimpleSpec::Elementary(
+            note(line, Some(StType::Elementary(kind)), Target::Nothing),
+            kind,
+        ),
+    }
+}
+
+fn named(alloc: Global, s: &Scope<'_>, line: u32, name: &Text) -> Result<CheckedElement, NoMemory>
+    ensures { IfOk result (λ c. IsNamed c s.now line name.now) }
+{
+    let kind = named_type(alloc, s, name)?;
+    let note = noted(alloc, line, &kind)?;
+    let copy = Text::copy(alloc, name.as_str())?;
+    Ok(CheckedElement {
+        kind,
+        least: type_fault(line, s, name),
+        element: SimpleSpec::Named(note, copy),
+    })
+}
+
+fn reference(
+    alloc: Global,
+    s: &Scope<'_>,
+    line: u32,
+    name_line: u32,
+    name: &Text,
+) -> Result<CheckedElement, NoMemory>
+    ensures { IfOk result (λ c. IsReference c s.now line name_line name.now) }
+{
+    let of = named_type(alloc, s, name)?;
+    let kind = reference_to(&of);
+    let other = when(is_no_instance(&of), Code::E07, name_line);
+    let note = noted(alloc, line, &kind)?;
+    let name_note = noted(alloc, name_line, &of)?;
+    let copy = Text::copy(alloc, name.as_str())?;
+    Ok(CheckedElement {
+        kind,
+        least: earlier(type_fault(name_line, s, name), other),
+        element: SimpleSpec::Reference(note, name_note, copy),
+    })
+}
+
+/// Checks what the innermost array of a type is of.
+pub fn check_element(
+    alloc: Global,
+    s: &Scope<'_>,
+    element: &SimpleSpec<u32>,
+) -> Result<CheckedElement, NoMemory>
+    ensures { IfOk result (λ c. ElementChecks c s.now element.now) }
+{
+    match element {
+        SimpleSpec::Elementary(line, kind) => Ok(elementary(*line, *kind)),
+        SimpleSpec::Named(line, name) => {
+            let c = named(alloc, s, *line, name)?;
+            Ok(c)
+        }
+        SimpleSpec::Reference(line, name_line, name) => {
+            let c = reference(alloc, s, *line, *name_line, name)?;
+            Ok(c)
+        }
+    }
+}

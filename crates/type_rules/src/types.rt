@@ -1,0 +1,61 @@
+//! Types as they are written.
+
+ghost use Rattle.std.specs.Prelude.{IfOk};
+ghost use Rattle.type_rules.specs.Types.{ChecksType};
+
+use crate::arrays::{Arrays, check_arrays, turned_arrays};
+use crate::dimensions::Told;
+use crate::elements::{CheckedElement, check_element};
+use plc_text::{Code, NoMemory};
+use st_scope::Scope;
+use st_tree::{Note, TypeSpec};
+use st_types::StType;
+use std::alloc::Global;
+
+/// What is found out about a type as it is written.
+#[derive(Drop)]
+pub struct CheckedType {
+    /// The type, where it can be told.
+    pub kind: Option<StType>,
+    /// The least rule that is broken, with its least line.
+    pub least: Option<(Code, u32)>,
+    /// Whether more than 64 arrays lie in the outermost one.
+    pub too_many: bool,
+    pub tree: TypeSpec<Note>,
+}
+
+/// Checks a type as it is written: what it means, where it can be told, the least rule that it breaks at its least line, whether it has
+/// more dimensions than a type may have, and its typed tree. It takes time linear in the text.
+pub fn check_type(
+    alloc: Global,
+    s: &Scope<'_>,
+    spec: &TypeSpec<u32>,
+) -> Result<CheckedType, NoMemory>
+    ensures { IfOk result (λ c. ChecksType c s.now spec.now) }
+{
+    let e = check_element(alloc, s, &spec.element)?;
+    let CheckedElement {
+        kind,
+        least,
+        element,
+    } = e;
+    let inner = Told {
+        kind,
+        least,
+        too_many: false,
+    };
+    let found = check_arrays(alloc, s, spec.arrays.as_slice(), inner)?;
+    let Arrays { told, arrays } = found;
+    let Told {
+        kind,
+        least,
+        too_many,
+    } = told;
+    let arrays = turned_arrays(alloc, arrays)?;
+    Ok(CheckedType {
+        kind,
+        least,
+        too_many,
+        tree: TypeSpec { arrays, element },
+    })
+}

@@ -1,0 +1,3 @@
+pub mod LevelLaws
+pub mod CountLaws
+pub mod RoundLaws
