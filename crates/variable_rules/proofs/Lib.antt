@@ -1,0 +1,4 @@
+pub mod EachLaws
+pub mod ExternalLaws
+pub mod ItemLaws
+pub mod SectionLaws

@@ -1,0 +1,5 @@
+pub mod Given
+pub mod Items
+pub mod Sections
+pub mod Results
+pub mod Private
