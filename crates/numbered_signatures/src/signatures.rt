@@ -28,7 +28,7 @@ impl NumberedSignatures {
     pub fn class_fault(&self, classes: &ClassTables, class: u32) -> Option<(Code, u32)>
         ensures { (all : AllSignatures Worth) → Tells self.now.worths self.now.signatures all → result ≡ least (rules.class_faults same_worth (classes_in classes.now.decls) all class) }
     {
-        let _nodes = self.worths.len();
+        self.worths.worth_laws();
         classes.broken(class, &self.signatures)
     }
 
@@ -36,7 +36,7 @@ impl NumberedSignatures {
     pub fn concrete_class_fault(&self, interfaces: &IfaceTables, class: u32) -> Option<(Code, u32)>
         ensures { (all : AllSignatures Worth) → Tells self.now.worths self.now.signatures all → result ≡ least (abstracts.concrete_class_faults (classes_in interfaces.now.decls) (interfaces_in interfaces.now.decls) same_worth all class) }
     {
-        let _nodes = self.worths.len();
+        self.worths.worth_laws();
         interfaces.broken_class(class, &self.signatures)
     }
 }

@@ -44,7 +44,7 @@ same_rank a b c d h k = grind (arith, common_steps)
 same_line : (a b c d : ℕ) → (nat_lt a c || nat_eq a c && nat_lt b d) ≡ false → (nat_lt c a || nat_eq c a && nat_lt d b) ≡ false → b ≡ d
 same_line a b c d h k = grind (arith, common_steps)
 
-same_first : (fs : Faults) (c d : Code) (l m : ℕ) → BreaksFirst fs c l → BreaksFirst fs d m → (c ≡ d) × (l ≡ m)
+pub same_first : (fs : Faults) (c d : Code) (l m : ℕ) → BreaksFirst fs c l → BreaksFirst fs d m → (c ≡ d) × (l ≡ m)
 same_first fs c d l m x y =
     let h = y.first c l x.broken in
     let k = x.first d m y.broken in

@@ -51,7 +51,7 @@ use Rattle.st_rules.specs.Classes.{classes_in}
 use Rattle.st_rules.specs.Interfaces.{interfaces_in}
 use Rattle.st_rules.specs.Named.{first_place}
 use Rattle.st_rules.specs.Scope.{Scope}
-use Rattle.st_rules.specs.Expressions.{note}
+use Rattle.st_rules.specs.Expressions.{note, told}
 use Rattle.st_rules.specs.Statements.{typed_statements}
 use Rattle.st_unit_rules.specs.ConfigurationRules.{is_interval, is_priority, runs_in}
 use Rattle.declared_names.specs.Declarations.{Region, of_global, of_instance, Declaration, declarations_of, regions_of, instances_of, is_first_configuration, entries_in, functions_in, programs_in, configurations_in}
@@ -227,10 +227,11 @@ module _ (decls : List (Decl ℕ)) where
   abbrev pub program_type : List ℕ → Option StType
   program_type name = option_map (λ k. type.Instance (length (classes_in decls) + k)) (first_place name (map (λ p. p.name.text) (programs_in decls)))
 
+  -- the type of a region is noted as all types are
   pub record GlobalRegion (w : Written) (r : RegionDecl) : Type 0 where
     pub name : r.name ≡ w.name.text
     pub program : r.program ≡ false
-    pub kind : Some r.kind ≡ type_written unit w.item.kind
+    pub kind : r.kind ≡ told (type_written unit w.item.kind)
     pub marks : r.marks ≡ marks_of w
     pub initial : IfThere (TypedInitial unit w.item.kind) w.item.initial r.initial
     pub address : r.address ≡ w.item.address
@@ -238,7 +239,7 @@ module _ (decls : List (Decl ℕ)) where
   pub record InstanceRegion (x : InstanceSpec) (r : RegionDecl) : Type 0 where
     pub name : r.name ≡ x.name.text
     pub program : r.program ≡ true
-    pub kind : Some r.kind ≡ program_type x.program.text
+    pub kind : r.kind ≡ told (program_type x.program.text)
     pub marks : r.marks ≡ no_marks
     pub initial : r.initial ≡ None
     pub address : r.address ≡ None

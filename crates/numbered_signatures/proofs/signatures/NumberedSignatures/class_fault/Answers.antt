@@ -9,4 +9,4 @@ use Rattle.numbered_signatures.proofs.signatures.NumberedSignatures.class_fault.
 pub returns : goal.returns
 returns c = λ all told.
     c.broken.ensures
-    ∙ ap least (class_faults_alike nat_eq same_worth (HasWorth c.args.self.now.worths) (λ a b v w h k. c.len-nodes.ensures v w a b h k) c.args.self.now.signatures all told (classes_in c.args.classes.now.decls) c.args.class)
+    ∙ ap least (class_faults_alike nat_eq same_worth (HasWorth c.args.self.now.worths) (λ a b v w h k. c.worth_laws.ensures v w a b h k) c.args.self.now.signatures all told (classes_in c.args.classes.now.decls) c.args.class)

@@ -10,5 +10,5 @@ use Rattle.numbered_signatures.proofs.signatures.NumberedSignatures.concrete_cla
 pub returns : goal.returns
 returns c = λ all told.
     c.broken_class.ensures
-    ∙ ap least (concrete_class_faults_alike nat_eq same_worth (HasWorth c.args.self.now.worths) (λ a b v w h k. c.len-nodes.ensures v w a b h k) c.args.self.now.signatures all told
+    ∙ ap least (concrete_class_faults_alike nat_eq same_worth (HasWorth c.args.self.now.worths) (λ a b v w h k. c.worth_laws.ensures v w a b h k) c.args.self.now.signatures all told
     (classes_in c.args.interfaces.now.decls) (interfaces_in c.args.interfaces.now.decls) c.args.class)

@@ -1,0 +1,4 @@
+pub mod FieldLaws
+pub mod SortLaws
+pub mod FaultLaws
+pub mod AllLaws

@@ -1,0 +1,7 @@
+//! The declarations of a unit, passed one after the other: laws of what stands before each, of what is bad first, and of what there is of each
+//! sort in the end.
+#![tactic(auto)]
+
+mod laws;
+
+pub use laws::passing_laws;
