@@ -5,164 +5,59 @@ ghost use Rattle.cycle_machine.specs.Room.{IsRoomFor};
 
 mod arithmetic;
 mod programs;
+mod written;
 
 use crate::room::{Room, run_body, run_hook_body};
 use mem_image::{Image, Regions};
-use plc_text::{Items, NoMemory, Text};
+use plc_text::{Items, NoMemory};
 use programs::program;
 use st_types::Elem;
 use stack_code::{
-    Address, Body, Conformance, InterfaceTarget, Kind, MachineCode, Op, Outcome, RoutineCode, Space,
+    Address, Body, Conformance, InterfaceTarget, MachineCode, Outcome, RoutineCode, Space,
 };
 use std::alloc::Global;
 use std::test::Fail;
 use valid_code::{ValidCode, validate};
+use written::{field, int, routine, small};
 
-/// An instruction, and the kinds that it finds as a word, N for a number and A for an address, the top one last.
-type Cell = (&'static str, Op);
+/// The routines from number 1 on: what each takes and returns, its locals and its instructions. Those two return a number;
+/// 3 calls itself as often as its argument says; 4 writes 5 to the address that its argument is; 5 returns a local that it
+/// has not written; 6 is a hook that keeps 1 and the moment; 7 and 8 are hooks that keep ten times their first local and their
+/// second, which are flags as far as there are any; 9 returns two numbers.
+const ROUTINES: &str = "|N|0|. PUSH 10;N RET 1
+|N|0|. PUSH 20;N RET 1
+N||16|. LOCAL 0;A LOAD LINT;N JUMPF 9;. NULL;A LOCAL 0;AA LOAD LINT;AN PUSH 1;ANN SUB LINT;AN CALL 3 1;. RET 0
+A||8|. PUSH 5;N LOCAL 0;NA LOADREF;NA STORE DINT;. RET 0
+|N|16|. LOCAL 0;A LOAD LINT;N RET 1
+||0|. PUSH 1;N THIS 0;NA STORE DINT;. NOW;N THIS 8;NA STORE LINT;. RET 0
+N||16|. LOCAL 0;A LOAD LINT;N PUSH 10;NN MUL LINT;N LOCAL 8;NA LOAD LINT;NN ADD LINT;N THIS 0;NA STORE DINT;. RET 0
+NN||16|. LOCAL 0;A LOAD LINT;N PUSH 10;NN MUL LINT;N LOCAL 8;NA LOAD LINT;NN ADD LINT;N THIS 0;NA STORE DINT;. RET 0
+|NN|0|. PUSH 3;N PUSH 4;NN RET 2";
 
-fn list(alloc: Global, word: &str) -> Result<Items<Kind>, NoMemory> {
-    let mut kinds = Items::new(alloc);
-    for letter in word.as_bytes() {
-        match *letter {
-            b'N' => kinds.push(Kind::Num)?,
-            _ => kinds.push(Kind::Addr)?,
-        }
-    }
-    Ok(kinds)
-}
-
-/// A routine of line 7, whose instructions have the lines from 100 on.
-fn routine(
-    alloc: Global,
-    args: &str,
-    rets: &str,
-    locals: u32,
-    cells: &[Cell],
-) -> Result<RoutineCode, NoMemory> {
-    let mut made = RoutineCode {
-        name: Text::copy(alloc, "R")?,
-        line: 7,
-        args: list(alloc, args)?,
-        rets: list(alloc, rets)?,
-        ops: Items::new(alloc),
-        lines: Items::new(alloc),
-        kinds: Items::new(alloc),
-        locals,
-        room: 8,
-    };
-    let mut line = 100_u32;
-    for (kinds, op) in cells {
-        made.ops.push(*op)?;
-        made.lines.push(line)?;
-        made.kinds.push(Some(list(alloc, kinds)?))?;
-        line = line.saturating_add(1);
-    }
-    Ok(made)
-}
-
-/// Returns the number.
-fn gives(number: i128) -> [Cell; 2] {
-    [("", Op::Push(number)), ("N", Op::Ret(1))]
-}
-
-/// Calls itself as often as its argument says.
-fn descends() -> [Cell; 10] {
-    [
-        ("", Op::Local(0)),
-        ("A", Op::Load(Elem::Lint)),
-        ("N", Op::JumpF(9)),
-        ("", Op::Null),
-        ("A", Op::Local(0)),
-        ("AA", Op::Load(Elem::Lint)),
-        ("AN", Op::Push(1)),
-        ("ANN", Op::Sub(Elem::Lint)),
-        ("AN", Op::Call(3, 1)),
-        ("", Op::Ret(0)),
-    ]
-}
-
-/// Writes 5 to the address that its argument is.
-fn sets() -> [Cell; 5] {
-    [
-        ("", Op::Push(5)),
-        ("N", Op::Local(0)),
-        ("NA", Op::LoadRef),
-        ("NA", Op::Store(Elem::Dint)),
-        ("", Op::Ret(0)),
-    ]
-}
-
-/// Returns a local that it has not written.
-fn reads_unwritten() -> [Cell; 3] {
-    [
-        ("", Op::Local(0)),
-        ("A", Op::Load(Elem::Lint)),
-        ("N", Op::Ret(1)),
-    ]
-}
-
-/// A hook that keeps 1 and the moment.
-fn hook_of_none() -> [Cell; 7] {
-    [
-        ("", Op::Push(1)),
-        ("N", Op::This(0)),
-        ("NA", Op::Store(Elem::Dint)),
-        ("", Op::Now),
-        ("N", Op::This(8)),
-        ("NA", Op::Store(Elem::Lint)),
-        ("", Op::Ret(0)),
-    ]
-}
-
-/// A hook that keeps ten times its first local and its second, which are flags as far as there are any.
-fn hook_of_flags() -> [Cell; 10] {
-    [
-        ("", Op::Local(0)),
-        ("A", Op::Load(Elem::Lint)),
-        ("N", Op::Push(10)),
-        ("NN", Op::Mul(Elem::Lint)),
-        ("N", Op::Local(8)),
-        ("NA", Op::Load(Elem::Lint)),
-        ("NN", Op::Add(Elem::Lint)),
-        ("N", Op::This(0)),
-        ("NA", Op::Store(Elem::Dint)),
-        ("", Op::Ret(0)),
-    ]
-}
-
-fn routines(alloc: Global, body: &[Cell]) -> Result<Items<RoutineCode>, NoMemory> {
-    let mut all = Items::new(alloc);
-    all.push(routine(alloc, "", "", 16, body)?)?;
-    all.push(routine(alloc, "", "N", 0, &gives(10))?)?;
-    all.push(routine(alloc, "", "N", 0, &gives(20))?)?;
-    all.push(routine(alloc, "N", "", 16, &descends())?)?;
-    all.push(routine(alloc, "A", "", 8, &sets())?)?;
-    all.push(routine(alloc, "", "N", 16, &reads_unwritten())?)?;
-    all.push(routine(alloc, "", "", 0, &hook_of_none())?)?;
-    all.push(routine(alloc, "N", "", 16, &hook_of_flags())?)?;
-    all.push(routine(alloc, "NN", "", 16, &hook_of_flags())?)?;
-    all.push(routine(
+fn described(alloc: Global, line: &str) -> Result<RoutineCode, NoMemory> {
+    routine(
         alloc,
-        "",
-        "NN",
-        0,
-        &[("", Op::Push(3)), ("N", Op::Push(4)), ("NN", Op::Ret(2))],
-    )?)?;
+        field(line, 0),
+        field(line, 1),
+        small(field(line, 2)),
+        field(line, 3),
+    )
+}
+
+fn routines(alloc: Global, body: &str) -> Result<Items<RoutineCode>, NoMemory> {
+    let mut all = Items::new(alloc);
+    let own = routine(alloc, "", "", 16, body)?;
+    all.push(own)?;
+    for line in ROUTINES.split('\n') {
+        let one = described(alloc, line)?;
+        all.push(one)?;
+    }
     Ok(all)
 }
 
-/// The body is that of region 0. Class 1 is derived from class 0 and implements interface 0, target 2; its method in
-/// slot 0 overrides that of class 0.
-fn code(alloc: Global, body: &[Cell]) -> Result<MachineCode, NoMemory> {
-    let mut made = MachineCode {
-        routines: routines(alloc, body)?,
-        slots: Items::new(alloc),
-        targets: Items::new(alloc),
-        conforms: Items::new(alloc),
-        bodies: Items::new(alloc),
-        methods: Items::new(alloc),
-    };
+/// Puts the tables to the code: the body is that of region 0; class 1 is derived from class 0 and implements interface 0, target
+/// 2; its method in slot 0 overrides that of class 0.
+fn link(alloc: Global, made: &mut MachineCode) -> Result<(), NoMemory> {
     for method in [1, 2] {
         let mut slots = Items::new(alloc);
         slots.push(Some(method))?;
@@ -181,12 +76,27 @@ fn code(alloc: Global, body: &[Cell]) -> Result<MachineCode, NoMemory> {
         region: 0,
         routine: 0,
     })?;
+    Ok(())
+}
+
+fn code(alloc: Global, body: &str) -> Result<MachineCode, NoMemory> {
+    let routines = routines(alloc, body)?;
+    let mut made = MachineCode {
+        routines,
+        slots: Items::new(alloc),
+        targets: Items::new(alloc),
+        conforms: Items::new(alloc),
+        bodies: Items::new(alloc),
+        methods: Items::new(alloc),
+    };
+    link(alloc, &mut made)?;
     Ok(made)
 }
 
-fn valid(alloc: Global, body: &[Cell]) -> Result<Option<ValidCode>, NoMemory> {
+fn valid(alloc: Global, body: &str) -> Result<Option<ValidCode>, NoMemory> {
     let made = code(alloc, body)?;
-    validate(alloc, made)
+    let valid = validate(alloc, made)?;
+    Ok(valid)
 }
 
 /// An image of 64 bytes that begins with the number.
@@ -233,45 +143,11 @@ fn shown(outcome: Option<Outcome>) -> (&'static str, u32) {
     }
 }
 
-/// A program, its ticks, how its run ends, and what is then in region 0: a DINT at 0 and a LINT at 8.
-type Case = (&'static str, u32, (&'static str, u32), i128, i128);
-
-fn cases() -> [Case; 29] {
-    [
-        ("loop", 4, ("done", 0), 3, 0),
-        ("loop", 3, ("Watchdog", 100), 3, 0),
-        ("loop", 5, ("done", 1), 3, 0),
-        ("slots", 0, ("done", 0), 10, 20),
-        ("slot of a stranger", 0, ("stuck", 0), 0, 0),
-        ("interface", 0, ("done", 0), 0, 20),
-        ("interface of a stranger", 0, ("stuck", 0), 0, 0),
-        ("method of NULL", 0, ("stuck", 0), 0, 0),
-        ("try", 0, ("Null", 108), 1, 0),
-        ("in-outs", 0, ("done", 0), 5, 5),
-        ("results", 0, ("done", 0), -1, 0),
-        ("division", 0, ("Divide", 105), 1, 0),
-        ("rest", 0, ("Divide", 102), 0, 0),
-        ("first element", 0, ("done", 0), 9, 0),
-        ("third element", 0, ("done", 0), 0, 9),
-        ("element past the last", 0, ("Index", 103), 0, 0),
-        ("element before the first", 0, ("Index", 103), 0, 0),
-        ("step of 0", 0, ("Step", 101), 0, 0),
-        ("step of 1", 0, ("done", 0), 1, 0),
-        ("copy that overlaps", 0, ("done", 0), 33620481, 0),
-        ("copies", 0, ("done", 0), 0, 1),
-        ("region that is away", 0, ("stuck", 0), 0, 0),
-        ("past the region", 0, ("stuck", 0), 0, 0),
-        ("offset past 32 bits", 0, ("stuck", 0), 0, 0),
-        ("sign", 0, ("done", 0), -56, 200),
-        ("moment", 0, ("done", 0), 0, 77),
-        ("own locals", 0, ("done", 0), 0, 0),
-        ("locals of a call", 0, ("done", 0), 0, 0),
-        ("words twice", 0, ("done", 0), 42, 0),
-    ]
-}
-
 /// How a run ended, and what was then in region 0: a value at 0 and a LINT at 8.
 type Seen = ((&'static str, u32), i128, i128);
+
+/// Code that is not valid.
+const INVALID: Seen = (("not valid", 0), 0, 0);
 
 /// Runs the body on new regions.
 fn once(
@@ -293,110 +169,160 @@ fn once(
     ))
 }
 
-/// Runs the program twice in one room.
-fn twice(
+/// Runs the code twice in one room.
+fn runs_of(alloc: Global, code: &ValidCode, ticks: u32, e: Elem) -> Result<(Seen, Seen), NoMemory> {
+    let mut room = Room::new(alloc, code)?;
+    let first = once(alloc, code, &mut room, ticks, e)?;
+    let second = once(alloc, code, &mut room, ticks, e)?;
+    Ok((first, second))
+}
+
+fn runs_if_valid(
     alloc: Global,
-    cells: &[Cell],
+    valid: &Option<ValidCode>,
     ticks: u32,
     e: Elem,
-) -> Result<Option<(Seen, Seen)>, NoMemory> {
-    let Some(code) = valid(alloc, cells)? else {
-        return Ok(None);
-    };
-    let mut room = Room::new(alloc, &code)?;
-    let first = once(alloc, &code, &mut room, ticks, e)?;
-    let second = once(alloc, &code, &mut room, ticks, e)?;
-    Ok(Some((first, second)))
+) -> Result<(Seen, Seen), NoMemory> {
+    match valid {
+        Some(code) => runs_of(alloc, code, ticks, e),
+        None => Ok((INVALID, INVALID)),
+    }
 }
+
+/// Runs the instructions twice in one room.
+fn twice(alloc: Global, cells: &str, ticks: u32, e: Elem) -> Result<(Seen, Seen), NoMemory> {
+    let valid = valid(alloc, cells)?;
+    let seen = runs_if_valid(alloc, &valid, ticks, e)?;
+    Ok(seen)
+}
+
+/// Whether a line says, behind so many bars, how the run ended, at which line, and what was then at 0 and at 8.
+fn is_seen(run: Seen, line: &str, from: usize) -> bool {
+    let ((end, at_line), at_0, at_8) = run;
+    let is_end = end == field(line, from) && at_line == small(field(line, from.saturating_add(1)));
+    let is_left = at_0 == int(field(line, from.saturating_add(2)))
+        && at_8 == int(field(line, from.saturating_add(3)));
+    is_end && is_left
+}
+
+/// A program, its ticks, how its run ends and at which line, and what is then in region 0: a DINT at 0 and a LINT at 8.
+const CASES: &str = "loop|4|done|0|3|0
+loop|3|Watchdog|100|3|0
+loop|5|done|1|3|0
+slots|0|done|0|10|20
+slot of a stranger|0|stuck|0|0|0
+interface|0|done|0|0|20
+interface of a stranger|0|stuck|0|0|0
+method of NULL|0|stuck|0|0|0
+try|0|Null|108|1|0
+in-outs|0|done|0|5|5
+results|0|done|0|-1|0
+division|0|Divide|105|1|0
+rest|0|Divide|102|0|0
+first element|0|done|0|9|0
+third element|0|done|0|0|9
+element past the last|0|Index|103|0|0
+element before the first|0|Index|103|0|0
+step of 0|0|Step|101|0|0
+step of 1|0|done|0|1|0
+copy that overlaps|0|done|0|33620481|0
+copies|0|done|0|0|1
+region that is away|0|stuck|0|0|0
+past the region|0|stuck|0|0|0
+offset past 32 bits|0|stuck|0|0|0
+sign|0|done|0|-56|200
+moment|0|done|0|0|77
+own locals|0|done|0|0|0
+locals of a call|0|done|0|0|0
+words twice|0|done|0|42|0";
 
 #[test]
 fn runs(rt: HostRuntime) -> Result<(), Fail> {
-    for (name, ticks, end, at_0, at_8) in cases() {
-        let cells = program(rt.alloc(), name)?;
-        let seen = twice(rt.alloc(), cells.as_slice(), ticks, Elem::Dint)?;
-        assert!(rt; seen.is_some(), "{name} is not valid");
-        if let Some((first, second)) = seen {
-            for run in [first, second] {
-                assert_eq!(rt; run.0.0, end.0, "{name}");
-                assert_eq!(rt; run.0.1, end.1, "{name}");
-                assert_eq!(rt; run.1, at_0, "{name}");
-                assert_eq!(rt; run.2, at_8, "{name}");
-            }
-        }
+    for line in CASES.split('\n') {
+        let name = field(line, 0);
+        let ticks = small(field(line, 1));
+        let (first, second) = twice(rt.alloc(), program(name), ticks, Elem::Dint)?;
+        assert!(rt; is_seen(first, line, 2), "{name}");
+        assert!(rt; is_seen(second, line, 2), "{name}");
     }
     Ok(())
 }
 
-fn nested(inner: i128) -> [Cell; 4] {
-    [
-        ("", Op::Null),
-        ("A", Op::Push(inner)),
-        ("AN", Op::Call(3, 1)),
-        ("", Op::End),
-    ]
+/// The run of a body that has itself called so often.
+fn nested(alloc: Global, inner: u32) -> Result<Seen, NoMemory> {
+    let cells = format!(in alloc; ". NULL;A PUSH {inner};AN CALL 3 1;. END")?;
+    let (run, _) = twice(alloc, cells.as_str(), 0, Elem::Dint)?;
+    Ok(run)
 }
 
 #[test]
 fn opens_calls(rt: HostRuntime) -> Result<(), Fail> {
     for (inner, name, line) in [(63, "done", 0), (64, "Depth", 108)] {
-        let seen = twice(rt.alloc(), &nested(inner), 0, Elem::Dint)?;
-        assert!(rt; seen.is_some());
-        if let Some((run, _)) = seen {
-            assert_eq!(rt; run.0.0, name);
-            assert_eq!(rt; run.0.1, line);
-        }
+        let run = nested(rt.alloc(), inner)?;
+        assert_eq!(rt; run.0.0, name);
+        assert_eq!(rt; run.0.1, line);
     }
     Ok(())
 }
 
-/// A hook, its flags and its ticks, how its run ends, and what is then in region 0.
-fn hooks() -> [(u32, (bool, bool), u32, (&'static str, u32), i128, i128); 7] {
-    [
-        (6, (true, true), 1, ("done", 0), 1, 0),
-        (6, (true, true), 0, ("Watchdog", 7), 0, 0),
-        (7, (true, true), 3, ("done", 2), 10, 0),
-        (7, (false, true), 3, ("done", 2), 0, 0),
-        (8, (true, true), 3, ("done", 2), 11, 0),
-        (8, (false, true), 3, ("done", 2), 1, 0),
-        (99, (false, true), 3, ("stuck", 0), 0, 0),
-    ]
-}
-
-fn hooked(
+/// Runs a hook of the code.
+fn hook_of(
     alloc: Global,
+    code: &ValidCode,
     routine: u32,
     flags: (bool, bool),
     ticks: u32,
-) -> Result<Option<Seen>, NoMemory> {
-    let Some(code) = valid(alloc, &[("", Op::End)])? else {
-        return Ok(None);
-    };
-    let mut room = Room::new(alloc, &code)?;
+) -> Result<Seen, NoMemory> {
+    let mut room = Room::new(alloc, code)?;
     let mut regions = regions(alloc)?;
     let own = Address {
         space: Space::Regions,
         index: 0,
         offset: 0,
     };
-    let outcome = run_hook_body(&code, &mut regions, &mut room, routine, own, flags, ticks);
-    Ok(Some((
+    let outcome = run_hook_body(code, &mut regions, &mut room, routine, own, flags, ticks);
+    Ok((
         shown(outcome),
         value(&regions, Elem::Dint, 0),
         value(&regions, Elem::Lint, 8),
-    )))
+    ))
 }
+
+fn hook_if_valid(
+    alloc: Global,
+    valid: &Option<ValidCode>,
+    routine: u32,
+    flags: (bool, bool),
+    ticks: u32,
+) -> Result<Seen, NoMemory> {
+    match valid {
+        Some(code) => hook_of(alloc, code, routine, flags, ticks),
+        None => Ok(INVALID),
+    }
+}
+
+fn hooked(alloc: Global, routine: u32, flags: (bool, bool), ticks: u32) -> Result<Seen, NoMemory> {
+    let valid = valid(alloc, ". END")?;
+    let seen = hook_if_valid(alloc, &valid, routine, flags, ticks)?;
+    Ok(seen)
+}
+
+/// A hook, its first flag (the second is set), its ticks, how its run ends and at which line, and what is then in region 0.
+const HOOKS: &str = "6|1|1|done|0|1|0
+6|1|0|Watchdog|7|0|0
+7|1|3|done|2|10|0
+7|0|3|done|2|0|0
+8|1|3|done|2|11|0
+8|0|3|done|2|1|0
+99|0|3|stuck|0|0|0";
 
 #[test]
 fn runs_hooks(rt: HostRuntime) -> Result<(), Fail> {
-    for (routine, flags, ticks, end, at_0, at_8) in hooks() {
-        let seen = hooked(rt.alloc(), routine, flags, ticks)?;
-        assert!(rt; seen.is_some());
-        if let Some(run) = seen {
-            assert_eq!(rt; run.0.0, end.0, "{routine}");
-            assert_eq!(rt; run.0.1, end.1, "{routine}");
-            assert_eq!(rt; run.1, at_0, "{routine}");
-            assert_eq!(rt; run.2, at_8, "{routine}");
-        }
+    for line in HOOKS.split('\n') {
+        let routine = small(field(line, 0));
+        let flags = (field(line, 1) == "1", true);
+        let run = hooked(rt.alloc(), routine, flags, small(field(line, 2)))?;
+        assert!(rt; is_seen(run, line, 3), "{line}");
     }
     Ok(())
 }
