@@ -9,6 +9,7 @@ mod found;
 mod graph;
 mod laws;
 mod maps;
+mod seen;
 mod settle;
 mod store;
 mod tables;

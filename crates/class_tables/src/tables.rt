@@ -11,27 +11,52 @@ ghost use Rattle.st_rules.specs.Classes.{classes_in};
 ghost use Rattle.st_rules.specs.Interfaces as interfaces;
 ghost use Rattle.st_rules.specs.Interfaces.{interfaces_in};
 ghost use Rattle.class_tables.specs.Slots as slots;
+ghost use Rattle.class_tables.specs.Private.Tables.{AreTables};
 
 use crate::broken::class_fault;
 use crate::chain::base;
 use crate::found;
 use crate::graph::lead;
+use crate::seen::Seen;
 use crate::settle::{Settled, settle_all};
 use class_rows::{UnitNames, UnitRows, first_place, names_of_unit, unit_rows};
 use graph_reach::Row;
 use plc_text::{Code, NoMemory, Text};
 use st_rules::{MethodId, Signatures};
-use st_tree::Unit;
+use st_tree::{Decl, Unit};
 use st_types::StType;
 use std::alloc::Global;
 use std::marker::Model;
-use std::snapshot::Snapshot;
+
+/// What tables keep, without the unit that contracts see.
+#[derive(Drop)]
+struct Parts {
+    names: UnitNames,
+    rows: UnitRows,
+    settled: Settled,
+    reach: Vec<Row>,
+}
+
+fn parts_of(alloc: Global, decls: &[Decl<u32>]) -> Result<Parts, NoMemory>
+    ensures { IfOk result (λ p. AreTables (classes_in decls.now) (interfaces_in decls.now) p.names p.rows p.settled p.reach.items) }
+{
+    let names = names_of_unit(alloc, decls)?;
+    let rows = unit_rows(alloc, &names, decls)?;
+    let settled = settle_all(alloc, rows.classes.as_slice(), names.methods.len())?;
+    let reach = lead(alloc, &rows)?;
+    Ok(Parts {
+        names,
+        rows,
+        settled,
+        reach,
+    })
+}
 
 /// The classes of a unit, which contracts see as the unit. Classes and interfaces are told by their numbers, from 0 in the order of the
 /// text, function blocks among the classes. What a name means is decided on cycles of bases and interfaces too.
 #[derive(Drop)]
 pub struct ClassTables {
-    of: Snapshot<Unit>,
+    of: Seen,
     names: UnitNames,
     rows: UnitRows,
     settled: Settled,
@@ -61,13 +86,15 @@ impl ClassTables {
     pub fn build(alloc: Global, unit: &Unit) -> Result<ClassTables, NoMemory>
         ensures { IfOk result (λ tables. tables ≡ unit.now) }
     {
-        let decls = unit.decls.as_slice();
-        let names = names_of_unit(alloc, decls)?;
-        let rows = unit_rows(alloc, &names, decls)?;
-        let settled = settle_all(alloc, rows.classes.as_slice(), names.methods.len())?;
-        let reach = lead(alloc, &rows)?;
+        let parts = parts_of(alloc, unit.decls.as_slice())?;
+        let Parts {
+            names,
+            rows,
+            settled,
+            reach,
+        } = parts;
         Ok(ClassTables {
-            of: Snapshot::of(unit),
+            of: Seen::of(unit),
             names,
             rows,
             settled,

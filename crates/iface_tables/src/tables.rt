@@ -48,9 +48,9 @@ impl IfaceTables {
     pub fn build(alloc: Global, unit: &Unit) -> Result<IfaceTables, NoMemory>
         ensures { IfOk result (λ tables. tables ≡ unit.now) }
     {
-        let classes = ClassTables::build(alloc, unit)?;
         let prototypes = all_prototypes(alloc, unit.decls.as_slice())?;
         let declarers = declarers(alloc, prototypes.as_slice())?;
+        let classes = ClassTables::build(alloc, unit)?;
         Ok(IfaceTables {
             classes,
             prototypes,

@@ -10,6 +10,7 @@ mod routines;
 mod scope;
 mod tables;
 mod telling;
+mod unit_tables;
 
 pub use scope::{Meant, Qualifier, Scope};
 pub use tables::NameTables;

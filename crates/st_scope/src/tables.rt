@@ -15,17 +15,15 @@ ghost use Rattle.st_scope.specs.Tables.{Holds, Knows};
 ghost use Rattle.st_scope.specs.Private.Enumerators as enumerators;
 ghost use Rattle.st_scope.specs.Private.Places as places;
 ghost use Rattle.st_scope.specs.Private.Routines as routines;
+ghost use Rattle.st_scope.specs.Private.Tables.{AreNameTables};
 ghost use Rattle.st_scope.specs.Private.Places.{IsTableOf, AreTables, items_at};
 
-use crate::bases::{bases_of, derived_in};
 use crate::chain::chain_of;
-use crate::climb::{base_of, nearest_variable, own_variable, tables_of, variables_at_class};
-use crate::enumerators::{first_enumerations, last_enumerations};
-use crate::places::{
-    Numbers, Places, Which, fields, global_variables, globals, number_of, place_of, types, values,
-};
+use crate::climb::{base_of, nearest_variable, own_variable, variables_at_class};
+use crate::places::{Numbers, Places, fields, number_of, place_of, values};
 use crate::routines::{is_block, method_at, prototype_at};
 use crate::telling::{tell_entry, tell_in_class, tell_shared};
+use crate::unit_tables::{UnitTables, tables_of_unit};
 use class_tables::ClassTables;
 use plc_text::{NoMemory, Text};
 use st_rules::{
@@ -55,7 +53,7 @@ fn field_list(part: &TypeParts) -> &[DeclaredField]
     }
 }
 
-fn values_of(alloc: Global, parts: &[TypeParts]) -> Result<Vec<Numbers>, NoMemory>
+pub fn values_of(alloc: Global, parts: &[TypeParts]) -> Result<Vec<Numbers>, NoMemory>
     ensures { IfOk result (λ tables. AreTables (λ n. n) (λ n. true) scope.value_names tables.items parts.now) }
 {
     let mut tables = Vec::new(alloc);
@@ -66,7 +64,7 @@ fn values_of(alloc: Global, parts: &[TypeParts]) -> Result<Vec<Numbers>, NoMemor
     Ok(tables)
 }
 
-fn fields_of(alloc: Global, parts: &[TypeParts]) -> Result<Vec<Numbers>, NoMemory>
+pub fn fields_of(alloc: Global, parts: &[TypeParts]) -> Result<Vec<Numbers>, NoMemory>
     ensures { IfOk result (λ tables. AreTables (λ f. f.name) (λ f. true) scope.field_list tables.items parts.now) }
 {
     let mut tables = Vec::new(alloc);
@@ -222,45 +220,37 @@ impl NameTables {
         ensures names { IfOk result (λ t. t.names ≡ names) }
         ensures knows { IfOk result (λ t. Knows t (classes_in unit.now.decls)) }
     {
-        let bases = bases_of(alloc, classes, unit)?;
-        let derived = derived_in(alloc, unit.decls.as_slice())?;
-        let tables = NameTables::with_bases(alloc, names, bases, derived)?;
-        Ok(tables)
+        match tables_of_unit(alloc, unit, classes, &names) {
+            Ok(tables) => Ok(NameTables::with_names(names, tables)),
+            Err(stop) => Err(stop),
+        }
     }
 
-    fn with_bases(
-        alloc: Global,
-        names: DeclaredNames,
-        bases: Vec<Option<u32>>,
-        derived: Vec<bool>,
-    ) -> Result<NameTables, NoMemory>
-        ensures { IfOk result (λ t. t ≡ record { names = names; bases = bases.items; derived = derived.items }) }
+    fn with_names(names: DeclaredNames, tables: UnitTables) -> NameTables
+        requires { AreNameTables names tables.shared.types tables.shared.globals tables.shared.variables tables.parted.first tables.parted.last tables.parted.values.items tables.parted.fields.items tables.classed.all.items tables.classed.inherited.items tables.classed.of_instance.items }
+        ensures { result ≡ record { names = names; bases = tables.based.bases.items; derived = tables.based.derived.items } }
     {
-        let types = types(alloc, names.types.as_slice())?;
-        let globals_table = globals(alloc, names.globals.as_slice())?;
-        let variables = global_variables(alloc, names.globals.as_slice())?;
-        let first = first_enumerations(alloc, names.parts.as_slice())?;
-        let last = last_enumerations(alloc, names.parts.as_slice())?;
-        let values = values_of(alloc, names.parts.as_slice())?;
-        let fields = fields_of(alloc, names.parts.as_slice())?;
-        let all = tables_of(alloc, names.classes.as_slice(), Which::All)?;
-        let inherited = tables_of(alloc, names.classes.as_slice(), Which::Inherited)?;
-        let of_instance = tables_of(alloc, names.classes.as_slice(), Which::OfInstance)?;
-        Ok(NameTables {
+        let UnitTables {
+            based,
+            shared,
+            parted,
+            classed,
+        } = tables;
+        NameTables {
             names,
-            bases,
-            derived,
-            types,
-            globals: globals_table,
-            variables,
-            first,
-            last,
-            values,
-            fields,
-            all,
-            inherited,
-            of_instance,
-        })
+            bases: based.bases,
+            derived: based.derived,
+            types: shared.types,
+            globals: shared.globals,
+            variables: shared.variables,
+            first: parted.first,
+            last: parted.last,
+            values: parted.values,
+            fields: parted.fields,
+            all: classed.all,
+            inherited: classed.inherited,
+            of_instance: classed.of_instance,
+        }
     }
 
     /// From now on the entry of TYPE, the class or the interface at the place has this type. No such place: nothing changes.
