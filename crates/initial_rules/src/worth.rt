@@ -21,15 +21,11 @@ fn outcome_target(value: Outcome) -> Target
 }
 
 /// The note with what an expression comes to.
-fn with_target(note: Note, target: Target) -> Note
+fn with_target(mut note: Note, target: Target) -> Note
     ensures { result ≡ noted target note }
 {
-    let Note {
-        line,
-        kind,
-        target: _,
-    } = note;
-    Note { line, kind, target }
+    note.target = target;
+    note
 }
 
 /// The typed tree of a constant expression, with what it comes to in the note of the whole: a number as a constant, else nothing.

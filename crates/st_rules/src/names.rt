@@ -9,7 +9,6 @@ use st_tree::{ClassSort, SectionSort, Target};
 use st_types::StType;
 
 /// A variable or a constant, as it is declared.
-#[derive(Drop)]
 pub struct DeclaredVariable {
     /// In upper case.
     pub name: Text,
@@ -25,8 +24,22 @@ pub struct DeclaredVariable {
     pub target: Target,
 }
 
+// By hand, so that a drop is one call: a derived one is written out wherever a `?` may need it, and a proof goes over each part.
+impl Drop for DeclaredVariable {
+    fn drop(self) {
+        let DeclaredVariable {
+            name: _,
+            sort: _,
+            constant: _,
+            access: _,
+            located_input: _,
+            kind: _,
+            target: _,
+        } = self;
+    }
+}
+
 /// A function, a method, or a method of an interface, as it is declared.
-#[derive(Drop)]
 pub struct DeclaredRoutine {
     /// In upper case.
     pub name: Text,
@@ -35,6 +48,18 @@ pub struct DeclaredRoutine {
     pub outcome: ResultType,
     /// The inputs, outputs and in-outs, in the order of the text.
     pub parameters: Series<DeclaredVariable>,
+}
+
+impl Drop for DeclaredRoutine {
+    fn drop(self) {
+        let DeclaredRoutine {
+            name: _,
+            access: _,
+            abstract_method: _,
+            outcome: _,
+            parameters: _,
+        } = self;
+    }
 }
 
 /// A class or a function block: what it declares itself, in the order of the text.
@@ -47,12 +72,17 @@ pub struct DeclaredClass {
 }
 
 /// A field of a structure.
-#[derive(Drop)]
 pub struct DeclaredField {
     /// In upper case.
     pub name: Text,
     /// None where the type cannot be told.
     pub kind: Option<StType>,
+}
+
+impl Drop for DeclaredField {
+    fn drop(self) {
+        let DeclaredField { name: _, kind: _ } = self;
+    }
 }
 
 /// What an entry of TYPE has.
@@ -67,12 +97,17 @@ pub enum TypeParts {
 }
 
 /// A name that serves in a type's place: an entry of TYPE, a class or an interface.
-#[derive(Drop)]
 pub struct DeclaredType {
     /// In upper case.
     pub name: Text,
     /// None where the type cannot be told.
     pub kind: Option<StType>,
+}
+
+impl Drop for DeclaredType {
+    fn drop(self) {
+        let DeclaredType { name: _, kind: _ } = self;
+    }
 }
 
 /// A global or a function.

@@ -35,11 +35,22 @@ pub enum Target {
 }
 
 /// What is found out about a node.
-#[derive(Debug, Drop)]
+#[derive(Debug)]
 pub struct Note {
     pub line: u32,
     pub kind: StType,
     pub target: Target,
+}
+
+// By hand, so that a drop is one call: a derived one is written out wherever a `?` may need it, and a proof goes over each part.
+impl Drop for Note {
+    fn drop(self) {
+        let Note {
+            line: _,
+            kind: _,
+            target: _,
+        } = self;
+    }
 }
 
 /// A region of the store: a global, or a program instance.
