@@ -1,8 +1,7 @@
 //! Texts that lack a token, and texts that stop too early.
 
-use super::answer;
+use super::{answer, is_answered};
 use std::alloc::{AllocError, Global};
-use std::process::Abort;
 use std::test::Fail;
 
 /// A program text, with white space between its tokens.
@@ -205,22 +204,24 @@ fn row_at<'a>(rows: &[(usize, &'a str)], place: usize) -> Option<&'a str> {
     None
 }
 
-/// The tokens without the one at a place are refused as the table says, or else at the one behind it.
-fn check(
-    rt: &impl Abort,
+/// Whether it is this refusal, or the shape of a text where it is to be read.
+fn is_as_told(found: &str, want: &str) -> bool {
+    found == want || (want.is_empty() && found.starts_with("("))
+}
+
+/// Whether the tokens without the one at a place are refused as the table says, or else at the one behind it.
+fn is_missed(
     alloc: Global,
     tokens: &str,
     place: usize,
     name: &str,
     others: &[(usize, &str)],
-) -> Result<(), Fail> {
+) -> Result<bool, AllocError> {
     let text = without(alloc, tokens, place)?;
     let found = answer(alloc, text.as_str())?;
     let next = format!(in alloc; "E02 {name} {}", place.saturating_add(2))?;
     let want = row_at(others, place).unwrap_or(next.as_str());
-    let is_read = want.is_empty() && found.starts_with("(");
-    assert!(rt; found.as_str() == want || is_read, "{place}: {found}");
-    Ok(())
+    Ok(is_as_told(found.as_str(), want))
 }
 
 #[test]
@@ -228,7 +229,8 @@ fn one_token_may_be_missing(rt: HostRuntime) -> Result<(), Fail> {
     let alloc = rt.alloc();
     for place in 0..155 {
         let name = name_at(&CONVEYOR_NAMES, place);
-        check(&rt, alloc, CONVEYOR, place, name, &CONVEYOR_WITHOUT)?;
+        let is_missed = is_missed(alloc, CONVEYOR, place, name, &CONVEYOR_WITHOUT)?;
+        assert!(rt; is_missed, "{place}");
     }
     Ok(())
 }
@@ -239,7 +241,8 @@ fn each_keyword_may_be_missing(rt: HostRuntime) -> Result<(), Fail> {
     for (place, token) in KEYWORDS.split_whitespace().enumerate() {
         if is_keyword(token) {
             let name = name_at(&KEYWORDS_NAMES, place);
-            check(&rt, alloc, KEYWORDS, place, name, &KEYWORDS_WITHOUT)?;
+            let is_missed = is_missed(alloc, KEYWORDS, place, name, &KEYWORDS_WITHOUT)?;
+            assert!(rt; is_missed, "{place}");
         }
     }
     Ok(())
@@ -248,20 +251,31 @@ fn each_keyword_may_be_missing(rt: HostRuntime) -> Result<(), Fail> {
 /// So many tokens are whole declarations.
 const WHOLE: [usize; 5] = [0, 12, 56, 133, 155];
 
+/// So many tokens of the text, each on a line of its own.
+fn front(alloc: Global, count: usize) -> Result<String, AllocError> {
+    let mut text = String::new(alloc);
+    for token in CONVEYOR.split_whitespace().take(count) {
+        text.push_str(token)?;
+        text.push_str("\n")?;
+    }
+    Ok(text)
+}
+
+/// Whether so many tokens are refused behind the last of them.
+fn wants_more(alloc: Global, count: usize) -> Result<bool, AllocError> {
+    let text = front(alloc, count)?;
+    let name = name_at(&CONVEYOR_NAMES, count);
+    let want = format!(in alloc; "E02 {name} {}", count.saturating_add(1))?;
+    let wants_more = is_answered(alloc, text.as_str(), want.as_str())?;
+    Ok(wants_more)
+}
+
 #[test]
 fn each_front_wants_more(rt: HostRuntime) -> Result<(), Fail> {
     let alloc = rt.alloc();
     for count in 0..156 {
-        let mut text = String::new(alloc);
-        for token in CONVEYOR.split_whitespace().take(count) {
-            text.push_str(token)?;
-            text.push_str("\n")?;
-        }
-        let found = answer(alloc, text.as_str())?;
-        let name = name_at(&CONVEYOR_NAMES, count);
-        let want = format!(in alloc; "E02 {name} {}", count + 1)?;
         let whole = WHOLE.contains(&count);
-        assert_eq!(rt; found.as_str() != want.as_str(), whole, "{count}: {found}");
+        assert!(rt; wants_more(alloc, count)? != whole, "{count}");
     }
     Ok(())
 }

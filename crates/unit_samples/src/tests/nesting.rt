@@ -1,6 +1,6 @@
 //! Statements in one another, as deep as they may stand, and one deeper.
 
-use super::answer;
+use super::{answer, is_answered};
 use std::alloc::{AllocError, Global};
 use std::test::Fail;
 
@@ -17,15 +17,31 @@ fn nested(alloc: Global, depth: usize) -> Result<String, AllocError> {
     Ok(text)
 }
 
+/// Whether a text is read, and its shape begins so.
+fn begins(alloc: Global, depth: usize, shape: &str) -> Result<bool, AllocError> {
+    let text = nested(alloc, depth)?;
+    let found = answer(alloc, text.as_str())?;
+    Ok(found.starts_with(shape))
+}
+
+/// Whether IFs behind this are refused so.
+fn is_refused(
+    alloc: Global,
+    before: &str,
+    depth: usize,
+    refusal: &str,
+) -> Result<bool, AllocError> {
+    let nested = nested(alloc, depth)?;
+    let text = format!(in alloc; "{before}{nested}")?;
+    let is_refused = is_answered(alloc, text.as_str(), refusal)?;
+    Ok(is_refused)
+}
+
 #[test]
 fn nesting_has_a_limit(rt: HostRuntime) -> Result<(), Fail> {
     let alloc = rt.alloc();
-    let flat = answer(alloc, nested(alloc, 64)?.as_str())?;
-    assert!(rt; flat.starts_with("(PROGRAM P (IF@2"), "{flat}");
-    let deep = answer(alloc, nested(alloc, 65)?.as_str())?;
-    assert_eq!(rt; deep.as_str(), "E03 P 66");
-    let text = format!(in alloc; "FUNCTION f ) {}", nested(alloc, 65)?)?;
-    let bad = answer(alloc, text.as_str())?;
-    assert_eq!(rt; bad.as_str(), "E02 F 1");
+    assert!(rt; begins(alloc, 64, "(PROGRAM P (IF@2")?);
+    assert!(rt; is_refused(alloc, "", 65, "E03 P 66")?);
+    assert!(rt; is_refused(alloc, "FUNCTION f ) ", 65, "E02 F 1")?);
     Ok(())
 }
