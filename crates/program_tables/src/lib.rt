@@ -8,6 +8,7 @@ mod graph;
 mod parts;
 mod places;
 mod routine;
+mod seen;
 mod tables;
 #[cfg(test)]
 mod tests;

@@ -8,19 +8,19 @@ ghost use Rattle.program_tables.specs.Routine.{routine_of};
 
 use crate::parts::{self, Tables, tables_of};
 use crate::routine::RoutineId;
+use crate::seen::Seen;
 use plc_text::{NoMemory, Text};
 use st_tree::Program;
 use st_types::StType;
 use std::alloc::Global;
 use std::marker::Model;
-use std::snapshot::Snapshot;
 
 /// The tables of a program, which contracts see as the program. Classes are told by their numbers, from 0 in the order of the text,
 /// function blocks among them and programs behind them. What a name means is decided on cycles of bases too, which no program has
 /// that the checker accepted.
 #[derive(Drop)]
 pub struct ProgramTables {
-    of: Snapshot<Program>,
+    of: Seen,
     tables: Tables,
 }
 
@@ -47,7 +47,7 @@ impl ProgramTables {
     {
         let tables = tables_of(alloc, program)?;
         Ok(ProgramTables {
-            of: Snapshot::of(program),
+            of: Seen::of(program),
             tables,
         })
     }
