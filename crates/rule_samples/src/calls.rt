@@ -1,8 +1,6 @@
 //! Calls by example, outside of classes.
 
 use crate::setup::{PLANT, unit};
-use class_tables::ClassTables;
-use iface_tables::IfaceTables;
 use plc_text::{Code, Items, NoMemory};
 use st_calls::{
     called_root_fault, callee_at, callee_fault, callee_parameters, heads_of, is_assignable,
@@ -10,12 +8,12 @@ use st_calls::{
 };
 use st_lexer::{lexemes, tokens};
 use st_parser_expr::parse_expr;
-use st_scope::{NameTables, Scope};
+use st_scope::Scope;
 use st_tree::{Argument, Expr, Place};
 use st_types::{Elem, StType};
 use std::alloc::Global;
 use std::test::Fail;
-use unit_names::unit_names;
+use unit_tables::UnitTables;
 
 fn call(alloc: Global, text: &str) -> Result<(Place<u32>, Items<Argument<u32>>), NoMemory> {
     let found = match tokens(alloc, text) {
@@ -58,42 +56,46 @@ const CALLS: [(&str, Option<Code>, bool, usize); 24] = [
     ("INT_TO_INT(1)", None, true, 9),
 ];
 
+/// The rule that a call breaks by what is called and how its arguments are written, whether it gives a value, and for which parameter its
+/// first argument is; 9 for none.
+fn told(
+    alloc: Global,
+    s: &Scope<'_>,
+    text: &str,
+) -> Result<(Option<(Code, u32)>, bool, usize), NoMemory> {
+    let (p, arguments) = call(alloc, text)?;
+    let selectors = p.selectors.as_slice();
+    let called = callee_at(s, &p.root, selectors);
+    let operand = operand_of(alloc, called);
+    let parameters = callee_parameters(alloc, s, called, &operand)?;
+    let heads = heads_of(alloc, arguments.as_slice())?;
+    let on_super = is_on_super(&p.root, selectors);
+    let fault = callee_fault(alloc, s, 1, on_super, called, &parameters, &heads)?;
+    let matched = matches(alloc, &parameters, &heads)?;
+    let first = match matched.first() {
+        Some(Some(m)) => m.number,
+        _ => 9,
+    };
+    Ok((fault, result_fault(1, called).is_none(), first))
+}
+
+fn root_fault(alloc: Global, s: &Scope<'_>, text: &str) -> Result<Option<(Code, u32)>, NoMemory> {
+    let (p, _) = call(alloc, text)?;
+    Ok(called_root_fault(s, &p.root, p.selectors.as_slice()))
+}
+
 #[test]
 fn calls_outside_of_classes(rt: HostRuntime) -> Result<(), Fail> {
     let alloc = rt.alloc();
     let unit = unit(alloc, PLANT)?;
-    let classes = ClassTables::build(alloc, &unit)?;
-    let interfaces = IfaceTables::build(alloc, &unit)?;
-    let names = unit_names(alloc, &unit, &classes, &interfaces)?;
-    let tables = NameTables::build(alloc, &unit, &classes, names)?;
-    let s = Scope::within(alloc, &tables, &classes, &interfaces, &[], None, false)?;
+    let tables = UnitTables::build(alloc, &unit)?;
+    let s = tables.scope(alloc, None, false, &[])?;
     for (text, code, gives, first) in &CALLS {
-        let (p, arguments) = call(alloc, text)?;
-        let selectors = p.selectors.as_slice();
-        let called = callee_at(&s, &p.root, selectors);
-        let operand = operand_of(alloc, called);
-        let parameters = callee_parameters(alloc, &s, called, &operand)?;
-        let heads = heads_of(alloc, arguments.as_slice())?;
-        let on_super = is_on_super(&p.root, selectors);
-        let fault = callee_fault(alloc, &s, 1, on_super, called, &parameters, &heads)?;
-        match code {
-            Some(code) => assert!(rt; fault == Some((*code, 1)), "{text}"),
-            None => assert!(rt; fault.is_none(), "{text}"),
-        }
-        assert_eq!(rt; result_fault(1, called).is_none(), *gives, "{text}");
-        let matched = matches(alloc, &parameters, &heads)?;
-        let number = match matched.first() {
-            Some(Some(m)) => m.number,
-            _ => 9,
-        };
-        assert_eq!(rt; number, *first, "{text}");
+        let fault = code.map(|code| (code, 1));
+        assert!(rt; told(alloc, &s, text)? == (fault, *gives, *first), "{text}");
     }
-    let (nowhere, _) = call(alloc, "NOWHERE(1)")?;
-    assert!(rt;
-        called_root_fault(&s, &nowhere.root, nowhere.selectors.as_slice()) == Some((Code::E05, 1))
-    );
-    let (conversion, _) = call(alloc, "INT_TO_DINT(1)")?;
-    assert!(rt; called_root_fault(&s, &conversion.root, conversion.selectors.as_slice()).is_none());
+    assert!(rt; root_fault(alloc, &s, "NOWHERE(1)")? == Some((Code::E05, 1)));
+    assert!(rt; root_fault(alloc, &s, "INT_TO_DINT(1)")?.is_none());
     let int = StType::Elementary(Elem::Int);
     let dint = StType::Elementary(Elem::Dint);
     assert!(rt; is_assignable(&s, &int, &dint) && !is_assignable(&s, &dint, &int));

@@ -1,19 +1,17 @@
 //! Expressions by example, outside of classes.
 
 use crate::setup::{PLANT, unit};
-use class_tables::ClassTables;
-use iface_tables::IfaceTables;
 use plc_text::{Code, NoMemory};
 use st_check_expr::{Broken, check_expr};
 use st_lexer::{lexemes, tokens};
 use st_parser_expr::parse_expr;
 use st_rules::Asked;
-use st_scope::{NameTables, Scope};
+use st_scope::Scope;
 use st_tree::{Expr, Note};
 use st_types::{Elem, StType};
 use std::alloc::Global;
 use std::test::Fail;
-use unit_names::unit_names;
+use unit_tables::UnitTables;
 
 fn expression(alloc: Global, text: &str) -> Result<Expr<u32>, NoMemory> {
     let found = match tokens(alloc, text) {
@@ -194,28 +192,34 @@ const BAD: [(&str, Option<Elem>, Code, u32); 68] = [
     ("INT_TO_SINT(40000)", None, Code::E13, 1),
 ];
 
+/// The kind of an expression that breaks no rule, none where its type is not elementary; or what it breaks.
+fn told(
+    alloc: Global,
+    s: &Scope<'_>,
+    text: &str,
+    asked: Option<Elem>,
+) -> Result<Result<Option<Elem>, Broken>, NoMemory> {
+    let e = expression(alloc, text)?;
+    match check_expr(alloc, s, &e, &asked_for(asked)) {
+        Ok(t) => Ok(Ok(kind_of(&t))),
+        Err(broken) => Ok(Err(broken)),
+    }
+}
+
 #[test]
 fn expressions_outside_of_classes(rt: HostRuntime) -> Result<(), Fail> {
     let alloc = rt.alloc();
     let unit = unit(alloc, PLANT)?;
-    let classes = ClassTables::build(alloc, &unit)?;
-    let interfaces = IfaceTables::build(alloc, &unit)?;
-    let names = unit_names(alloc, &unit, &classes, &interfaces)?;
-    let tables = NameTables::build(alloc, &unit, &classes, names)?;
-    let s = Scope::within(alloc, &tables, &classes, &interfaces, &[], None, false)?;
+    let tables = UnitTables::build(alloc, &unit)?;
+    let s = tables.scope(alloc, None, false, &[])?;
     for (text, asked, kind) in &GOOD {
-        let e = expression(alloc, text)?;
-        match check_expr(alloc, &s, &e, &asked_for(*asked)) {
-            Ok(t) => assert_eq!(rt; kind_of(&t), *kind, "{text}"),
-            Err(_) => assert!(rt; false, "{text}"),
-        }
+        assert!(rt; told(alloc, &s, text, *asked)? == Ok(*kind), "{text}");
     }
     for (text, asked, code, line) in &BAD {
-        let e = expression(alloc, text)?;
-        match check_expr(alloc, &s, &e, &asked_for(*asked)) {
-            Ok(_) => assert!(rt; false, "{text}"),
-            Err(b) => assert!(rt; b == Broken::Rule(*code, *line), "{text}"),
-        }
+        assert!(rt;
+            told(alloc, &s, text, *asked)? == Err(Broken::Rule(*code, *line)),
+            "{text}"
+        );
     }
     Ok(())
 }
@@ -230,21 +234,22 @@ fn sum(alloc: Global, operators: u32) -> Result<Expr<u32>, NoMemory> {
     expression(alloc, &text)
 }
 
+/// Whether a row of so many operators is refused for their number.
+fn is_too_long(alloc: Global, s: &Scope<'_>, operators: u32) -> Result<bool, NoMemory> {
+    let e = sum(alloc, operators)?;
+    match check_expr(alloc, s, &e, &Asked::Anything) {
+        Ok(_) => Ok(false),
+        Err(broken) => Ok(broken == Broken::Rule(Code::E16, 1)),
+    }
+}
+
 #[test]
 fn operators_up_to_the_limit(rt: HostRuntime) -> Result<(), Fail> {
     let alloc = rt.alloc();
     let unit = unit(alloc, PLANT)?;
-    let classes = ClassTables::build(alloc, &unit)?;
-    let interfaces = IfaceTables::build(alloc, &unit)?;
-    let names = unit_names(alloc, &unit, &classes, &interfaces)?;
-    let tables = NameTables::build(alloc, &unit, &classes, names)?;
-    let s = Scope::within(alloc, &tables, &classes, &interfaces, &[], None, false)?;
-    let most = sum(alloc, 256)?;
-    assert!(rt; check_expr(alloc, &s, &most, &Asked::Anything).is_ok());
-    let more = sum(alloc, 257)?;
-    match check_expr(alloc, &s, &more, &Asked::Anything) {
-        Ok(_) => assert!(rt; false),
-        Err(b) => assert!(rt; b == Broken::Rule(Code::E16, 1)),
-    }
+    let tables = UnitTables::build(alloc, &unit)?;
+    let s = tables.scope(alloc, None, false, &[])?;
+    assert!(rt; !is_too_long(alloc, &s, 256)?);
+    assert!(rt; is_too_long(alloc, &s, 257)?);
     Ok(())
 }

@@ -1,8 +1,6 @@
 //! Places, by example: in a method of the function block B, which extends A.
 
 use crate::setup::unit;
-use class_tables::ClassTables;
-use iface_tables::IfaceTables;
 use plc_text::{Code, NoMemory, Text};
 use st_lexer::{lexemes, tokens};
 use st_parser_expr::parse_expr;
@@ -10,12 +8,12 @@ use st_places::{
     Standing, conversion_named, placed, root_fault, root_standing, selected, selector_fault,
     target_fault, whole_fault, whole_target,
 };
-use st_scope::{NameTables, Scope};
-use st_tree::{Expr, Place, Target};
+use st_scope::Scope;
+use st_tree::{Expr, Place, Root, Target};
 use st_types::{Elem, StType};
 use std::alloc::Global;
 use std::test::Fail;
-use unit_names::unit_names;
+use unit_tables::UnitTables;
 
 const UNIT: &str = "
 TYPE E : (RED); S : STRUCT F : INT; END_STRUCT; LOST : NOWHERE; END_TYPE
@@ -118,45 +116,58 @@ const PLACES: [(&str, &str, Option<Code>, bool); 28] = [
     ("SUPER", "own", None, false),
 ];
 
+/// What stands at a place, in a word; the rule that it breaks; and whether it may be written.
+fn told(
+    alloc: Global,
+    s: &Scope<'_>,
+    text: &str,
+) -> Result<(&'static str, Option<(Code, u32)>, bool), NoMemory> {
+    let p = place(alloc, text)?;
+    let selectors = p.selectors.as_slice();
+    let stands = word(placed(s, &p.root, selectors));
+    let is_written = target_fault(s, &p.root, selectors).is_none();
+    Ok((stands, broken(s, &p), is_written))
+}
+
+fn target(alloc: Global, s: &Scope<'_>, text: &str) -> Result<Target, NoMemory> {
+    let p = place(alloc, text)?;
+    Ok(whole_target(s, &p.root, p.selectors.as_slice()))
+}
+
+/// Whether a place may not be written outside of its class, and THIS stands there for nothing.
+fn is_closed(alloc: Global, outside: &Scope<'_>) -> Result<bool, NoMemory> {
+    let output = place(alloc, "R^.Q")?;
+    let fault = target_fault(outside, &output.root, output.selectors.as_slice());
+    Ok(fault == Some((Code::E08, 1)) && denies_this(outside))
+}
+
+fn denies_this(outside: &Scope<'_>) -> bool {
+    root_fault(outside, false, &Root::This(1), &[]) == Some((Code::E10, 1))
+}
+
 #[test]
 fn places_in_a_method(rt: HostRuntime) -> Result<(), Fail> {
     let alloc = rt.alloc();
     let unit = unit(alloc, UNIT)?;
-    let classes = ClassTables::build(alloc, &unit)?;
-    let interfaces = IfaceTables::build(alloc, &unit)?;
-    let names = unit_names(alloc, &unit, &classes, &interfaces)?;
-    let tables = NameTables::build(alloc, &unit, &classes, names)?;
-    let s = Scope::within(alloc, &tables, &classes, &interfaces, &[], Some(1), true)?;
-    for (text, stands, code, written) in &PLACES {
-        let p = place(alloc, text)?;
-        let selectors = p.selectors.as_slice();
-        assert_eq!(rt; word(placed(&s, &p.root, selectors)), *stands, "{text}");
-        let fault = broken(&s, &p);
-        match code {
-            Some(code) => assert!(rt; fault == Some((*code, 1)), "{text}"),
-            None => assert!(rt; fault.is_none(), "{text}"),
-        }
-        assert_eq!(rt;
-            target_fault(&s, &p.root, selectors).is_none(),
-            *written,
+    let tables = UnitTables::build(alloc, &unit)?;
+    let s = tables.scope(alloc, Some(1), true, &[])?;
+    for (text, stands, code, is_written) in &PLACES {
+        let fault = code.map(|code| (code, 1));
+        assert!(rt;
+            told(alloc, &s, text)? == (*stands, fault, *is_written),
             "{text}"
         );
     }
-    let constant = place(alloc, "C")?;
-    assert!(rt;
-        whole_target(&s, &constant.root, constant.selectors.as_slice()) == Target::Constant(7)
-    );
-    let value = place(alloc, "E.RED")?;
-    assert!(rt; whole_target(&s, &value.root, value.selectors.as_slice()) == Target::Enumerator(0));
-    let outside = Scope::within(alloc, &tables, &classes, &interfaces, &[], None, false)?;
-    let output = place(alloc, "R^.Q")?;
-    let selectors = output.selectors.as_slice();
-    assert!(rt; target_fault(&outside, &output.root, selectors) == Some((Code::E08, 1)));
-    let this = place(alloc, "THIS")?;
-    assert!(rt;
-        root_fault(&outside, false, &this.root, this.selectors.as_slice()) == Some((Code::E10, 1))
-    );
+    assert!(rt; target(alloc, &s, "C")? == Target::Constant(7));
+    assert!(rt; target(alloc, &s, "E.RED")? == Target::Enumerator(0));
+    let outside = tables.scope(alloc, None, false, &[])?;
+    assert!(rt; is_closed(alloc, &outside)?);
     Ok(())
+}
+
+fn conversion(alloc: Global, text: &str) -> Result<Option<(Elem, Elem)>, NoMemory> {
+    let name = Text::copy(alloc, text)?;
+    Ok(conversion_named(&name))
 }
 
 #[test]
@@ -171,9 +182,8 @@ fn conversions_by_name(rt: HostRuntime) -> Result<(), Fail> {
         ("INTO_TO_INT", None),
         ("INT_TO_DINTS", None),
     ];
-    for (text, conversion) in &cases {
-        let name = Text::copy(alloc, text)?;
-        assert!(rt; conversion_named(&name) == *conversion, "{text}");
+    for (text, named) in &cases {
+        assert!(rt; conversion(alloc, text)? == *named, "{text}");
     }
     Ok(())
 }

@@ -1,16 +1,14 @@
 //! What names mean, by example: in a method of the function block B, which extends A.
 
 use crate::setup::unit;
-use class_tables::ClassTables;
-use iface_tables::IfaceTables;
 use plc_text::{NoMemory, Text};
 use st_rules::{Access, DeclaredVariable};
-use st_scope::{Meant, NameTables, Qualifier, Scope};
+use st_scope::{Meant, Qualifier, Scope};
 use st_tree::{SectionSort, Target};
 use st_types::{Elem, StType};
 use std::alloc::Global;
 use std::test::Fail;
-use unit_names::unit_names;
+use unit_tables::UnitTables;
 
 const UNIT: &str = "
 TYPE E : (RED, GREEN); E2 : (GREEN, BLUE); LOST : NOWHERE; END_TYPE
@@ -28,10 +26,11 @@ VAR_GLOBAL G : INT; END_VAR
 FUNCTION F END_FUNCTION
 ";
 
-/// The local variable X.
-fn local(alloc: Global) -> Result<DeclaredVariable, NoMemory> {
+/// The local variable X, alone.
+fn locals(alloc: Global) -> Result<Vec<DeclaredVariable>, NoMemory> {
     let name = Text::copy(alloc, "X")?;
-    Ok(DeclaredVariable {
+    let mut locals = Vec::new(alloc);
+    locals.push(DeclaredVariable {
         name,
         sort: SectionSort::Var,
         constant: false,
@@ -39,7 +38,8 @@ fn local(alloc: Global) -> Result<DeclaredVariable, NoMemory> {
         located_input: false,
         kind: Some(StType::Elementary(Elem::Int)),
         target: Target::Variable(0),
-    })
+    })?;
+    Ok(locals)
 }
 
 /// What a name means, in a word.
@@ -54,62 +54,61 @@ fn word(scope: &Scope<'_>, called: bool, name: &Text) -> &'static str {
     }
 }
 
+fn meant(alloc: Global, s: &Scope<'_>, text: &str, called: bool) -> Result<&'static str, NoMemory> {
+    let name = Text::copy(alloc, text)?;
+    Ok(word(s, called, &name))
+}
+
+fn has_instance_variable(alloc: Global, s: &Scope<'_>, text: &str) -> Result<bool, NoMemory> {
+    let name = Text::copy(alloc, text)?;
+    Ok(s.instance_variable(1, &name).is_some())
+}
+
+fn type_qualifier(alloc: Global, s: &Scope<'_>, text: &str) -> Result<Qualifier, NoMemory> {
+    let name = Text::copy(alloc, text)?;
+    Ok(s.type_qualifier(&name))
+}
+
+fn dot_qualifier(alloc: Global, s: &Scope<'_>, text: &str) -> Result<Qualifier, NoMemory> {
+    let name = Text::copy(alloc, text)?;
+    Ok(s.dot_qualifier(&name))
+}
+
+/// Whether the value BLUE of the second type has the number 1, and the first type no field of this name.
+fn has_blue_alone(alloc: Global, s: &Scope<'_>) -> Result<bool, NoMemory> {
+    let blue = Text::copy(alloc, "BLUE")?;
+    Ok(s.value_of(1, &blue) == Some(1) && s.field_named(0, &blue).is_none())
+}
+
+/// Names, whether they are called, and what they mean.
+const NAMES: [(&str, bool, &str); 9] = [
+    ("X", false, "variable"),
+    ("N", false, "member"),
+    ("T", false, "member"),
+    ("G", false, "variable"),
+    ("M", false, "nothing"),
+    ("M", true, "method"),
+    ("F", true, "function"),
+    ("RED", false, "enumerator"),
+    ("GREEN", false, "nothing"),
+];
+
 #[test]
 fn names_in_a_method(rt: HostRuntime) -> Result<(), Fail> {
     let alloc = rt.alloc();
     let unit = unit(alloc, UNIT)?;
-    let classes = ClassTables::build(alloc, &unit)?;
-    let interfaces = IfaceTables::build(alloc, &unit)?;
-    let names = unit_names(alloc, &unit, &classes, &interfaces)?;
-    let tables = NameTables::build(alloc, &unit, &classes, names)?;
-    let x = local(alloc)?;
-    let mut locals = Vec::new(alloc);
-    locals.push(x)?;
-    let scope = Scope::within(
-        alloc,
-        &tables,
-        &classes,
-        &interfaces,
-        &locals,
-        Some(1),
-        true,
-    )?;
-    let cases = [
-        ("X", false, "variable"),
-        ("N", false, "member"),
-        ("T", false, "member"),
-        ("G", false, "variable"),
-        ("M", false, "nothing"),
-        ("M", true, "method"),
-        ("F", true, "function"),
-        ("RED", false, "enumerator"),
-        ("GREEN", false, "nothing"),
-    ];
-    for (text, called, meant) in &cases {
-        let name = Text::copy(alloc, text)?;
-        assert_eq!(rt; word(&scope, *called, &name), *meant);
+    let tables = UnitTables::build(alloc, &unit)?;
+    let locals = locals(alloc)?;
+    let s = tables.scope(alloc, Some(1), true, &locals)?;
+    for (text, called, word) in &NAMES {
+        assert_eq!(rt; meant(alloc, &s, text, *called)?, *word);
     }
-    let q = Text::copy(alloc, "Q")?;
-    assert!(rt; scope.instance_variable(1, &q).is_some());
-    assert!(rt;
-        scope
-            .instance_variable(1, &Text::copy(alloc, "T")?)
-            .is_none()
-    );
-    assert_eq!(rt;
-        scope.type_qualifier(&Text::copy(alloc, "E")?),
-        Qualifier::Values(0)
-    );
-    assert_eq!(rt;
-        scope.dot_qualifier(&Text::copy(alloc, "LOST")?),
-        Qualifier::Untold
-    );
-    assert_eq!(rt;
-        scope.dot_qualifier(&Text::copy(alloc, "X")?),
-        Qualifier::Nothing
-    );
-    assert_eq!(rt; scope.value_of(1, &Text::copy(alloc, "BLUE")?), Some(1));
-    assert!(rt; scope.field_named(0, &q).is_none());
-    assert!(rt; scope.may_use(Access::Protected, 0) && !scope.may_use(Access::Private, 0));
+    assert!(rt; has_instance_variable(alloc, &s, "Q")?);
+    assert!(rt; !has_instance_variable(alloc, &s, "T")?);
+    assert_eq!(rt; type_qualifier(alloc, &s, "E")?, Qualifier::Values(0));
+    assert_eq!(rt; dot_qualifier(alloc, &s, "LOST")?, Qualifier::Untold);
+    assert_eq!(rt; dot_qualifier(alloc, &s, "X")?, Qualifier::Nothing);
+    assert!(rt; has_blue_alone(alloc, &s)?);
+    assert!(rt; s.may_use(Access::Protected, 0) && !s.may_use(Access::Private, 0));
     Ok(())
 }

@@ -1,0 +1,3 @@
+pub mod Found
+pub mod Structures
+pub mod Private

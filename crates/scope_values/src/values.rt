@@ -1,0 +1,71 @@
+//! Values in a scope.
+
+ghost use Rattle.std.specs.Prelude.{◌≡◌, ℕ, Some, IfOk};
+ghost use Rattle.st_tree.specs.Expression.{Expression as AnExpression, expression_of};
+ghost use Rattle.st_rules.specs.declared.asked.Asked.{Asked as AnAsked};
+ghost use Rattle.st_rules.specs.Literals.{asked_of};
+ghost use Rattle.st_rules.specs.Scope.{Scope as AScope};
+ghost use Rattle.declared_names.specs.Constants as constants;
+ghost use Rattle.constant_faults.specs.Faults.{IsConstant};
+
+use constant_faults::{Constant, check_constant};
+use constant_values::Outcome;
+use initial_worths::ConstantValues;
+use plc_text::NoMemory;
+use st_operators::asked_of;
+use st_scope::Scope;
+use st_tree::Expr;
+use st_types::StType;
+use std::alloc::Global;
+use told_expressions::names_are_told;
+
+/// The values of constant expressions in a scope.
+#[derive(Clone, Copy)]
+pub struct ScopeValues<'a> {
+    pub alloc: Global,
+    pub scope: &'a Scope<'a>,
+}
+
+/// The value, where no rule is broken.
+fn found_value(constant: &Constant) -> Option<i128>
+    ensures { (s : AScope) (asked : AnAsked) (e : AnExpression ℕ) → IsConstant constant.now s asked e → result ≡ constants.if_none (constants.constant_faults s asked e) (constants.constant_value s asked e) }
+{
+    if constant.least.is_some() {
+        return None;
+    }
+    match constant.value {
+        Outcome::Number(z) => Some(z),
+        Outcome::DividesByZero(_) => None,
+        Outcome::Untold => None,
+    }
+}
+
+/// The value of an expression where a value of the type stands, if all its names are told and it breaks no rule.
+fn told_value(
+    alloc: Global,
+    s: &Scope<'_>,
+    kind: &StType,
+    e: &Expr<u32>,
+) -> Result<Option<i128>, NoMemory>
+    ensures { IfOk result (λ v. v ≡ constants.told_value s.now (asked_of (Some kind.now)) (expression_of e.now)) }
+{
+    if !names_are_told(s, e) {
+        return Ok(None);
+    }
+    let wanted = kind.copy(alloc)?;
+    let asked = asked_of(Some(wanted));
+    let constant = check_constant(alloc, s, e, &asked)?;
+    let value = found_value(&constant);
+    Ok(value)
+}
+
+impl ConstantValues for ScopeValues<'_> {
+    ghost scope = { λ v. v.scope.now };
+
+    fn told_value(&self, kind: &StType, e: &Expr<u32>) -> Result<Option<i128>, NoMemory>
+        ensures { IfOk result (λ v. v ≡ constants.told_value self.now.scope.now (asked_of (Some kind.now)) (expression_of e.now)) }
+    {
+        let value = told_value(self.alloc, self.scope, kind, e)?;
+        Ok(value)
+    }
+}

@@ -1,0 +1,4 @@
+pub mod LevelLaws
+pub mod GroupLaws
+pub mod RoundLaws
+pub mod CountLaws

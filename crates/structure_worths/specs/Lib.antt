@@ -1,0 +1,3 @@
+pub mod Unweighed
+pub mod Weighed
+pub mod Private
