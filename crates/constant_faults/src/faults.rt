@@ -2,6 +2,7 @@
 
 ghost use Rattle.std.specs.Prelude.{◌≡◌, IfOk};
 ghost use Rattle.st_tree.specs.Expression.{expression_of};
+ghost use Rattle.st_rules.specs.Faults as faults;
 ghost use Rattle.st_rules.specs.Faults.{least};
 ghost use Rattle.st_rules.specs.Scope.{Scope as AScope};
 ghost use Rattle.declared_names.specs.Constants as constants;
@@ -43,6 +44,32 @@ fn divisor_fault(value: Outcome) -> Option<(Code, u32)>
     }
 }
 
+/// What an expression comes to.
+fn value_at(alloc: Global, s: &Scope<'_>, e: &Expr<u32>, asked: &Asked) -> Result<Outcome, NoMemory>
+    ensures { IfOk result (λ v. outcome v ≡ constants.constant_value s.now asked.now (expression_of e.now)) }
+{
+    let v = evaluate(alloc, s, e, asked)?;
+    let Valued { told: _, value } = v;
+    Ok(value)
+}
+
+/// What is found out: from the typed tree, the parts that are no constants, and the value.
+fn constant_by(x: Checked, of_parts: Option<(Code, u32)>, value: Outcome) -> Constant
+    ensures told { result.told ≡ x.told }
+    ensures least { (s : AScope) → result.least ≡ faults.earlier (faults.earlier x.least of_parts) (least (constants.zero_divisor s (outcome value))) }
+    ensures tree { result.tree ≡ x.tree }
+    ensures value { result.value ≡ value }
+{
+    let Checked { told, least, tree } = x;
+    let found = earlier(earlier(least, of_parts), divisor_fault(value));
+    Constant {
+        told,
+        least: found,
+        tree,
+        value,
+    }
+}
+
 /// Checks an expression where a constant is wanted, at a place that asks for something: its type, the least rule that it breaks at its
 /// least line, its typed tree, and what it comes to.
 pub fn check_constant(
@@ -53,16 +80,8 @@ pub fn check_constant(
 ) -> Result<Constant, NoMemory>
     ensures { IfOk result (λ c. IsConstant c s.now asked.now (expression_of e.now)) }
 {
-    let x = check_whole(alloc, s, e, asked)?;
-    let v = evaluate(alloc, s, e, asked)?;
-    let Checked { told, least, tree } = x;
-    let Valued { told: _, value } = v;
+    let value = value_at(alloc, s, e, asked)?;
     let of_parts = constant_part_fault(s, e);
-    let found = earlier(earlier(least, of_parts), divisor_fault(value));
-    Ok(Constant {
-        told,
-        least: found,
-        tree,
-        value,
-    })
+    let x = check_whole(alloc, s, e, asked)?;
+    Ok(constant_by(x, of_parts, value))
 }

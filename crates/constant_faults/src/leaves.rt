@@ -5,6 +5,7 @@ ghost use Rattle.st_tree.specs.Expression.{expression_of};
 ghost use Rattle.st_tree.specs.Number.{number_of};
 ghost use Rattle.st_rules.specs.Literals as literals;
 ghost use Rattle.declared_names.specs.Constants.{literal_outcome};
+ghost use Rattle.constant_values.specs.Noted.{noted_value as noted_by};
 ghost use Rattle.constant_values.specs.Outcome.{outcome};
 ghost use Rattle.constant_faults.specs.Valued.{IsWorth};
 ghost use Rattle.constant_faults.specs.Private.Leaves.{is_leaf};
@@ -20,19 +21,27 @@ use st_scope::Scope;
 use st_tree::Expr;
 use std::alloc::Global;
 
-/// The type and value of such an expression, by its typed tree.
-pub fn leaf(alloc: Global, s: &Scope<'_>, e: &Expr<u32>, asked: &Asked) -> Result<Valued, NoMemory>
-    requires { is_leaf (expression_of e.now) ≡ true }
-    ensures { IfOk result (λ v. IsWorth v s.now asked.now (expression_of e.now)) }
+/// What the typed tree of such an expression says.
+fn noted(x: Checked) -> Valued
+    ensures told { result.told ≡ x.told }
+    ensures value { outcome result.value ≡ noted_by (expression_of x.tree) }
 {
-    let x = check(alloc, s, e, asked)?;
     let Checked {
         told,
         least: _,
         tree,
     } = x;
     let value = noted_value(&tree);
-    Ok(Valued { told, value })
+    Valued { told, value }
+}
+
+/// The type and value of such an expression, by its typed tree.
+pub fn leaf(alloc: Global, s: &Scope<'_>, e: &Expr<u32>, asked: &Asked) -> Result<Valued, NoMemory>
+    requires { is_leaf (expression_of e.now) ≡ true }
+    ensures { IfOk result (λ v. IsWorth v s.now asked.now (expression_of e.now)) }
+{
+    let x = check(alloc, s, e, asked)?;
+    Ok(noted(x))
 }
 
 /// `-` before an int.

@@ -6,6 +6,6 @@ use Rattle.constant_faults.proofs.leaves.leaf.Goals as goal
 
 pub returns : goal.returns
 returns c = record {
-  told = c.in_ok-x.ensures.told;
-  value = c.noted_value-value.ensures ∙ ap noted_value c.in_ok-x.ensures.tree ∙ leaf_value c.args.s.now c.args.asked.now (expression_of c.args.e.now) c.requires;
+  told = c.noted.ensures.told ∙ c.in_ok-x.ensures.told;
+  value = c.noted.ensures.value ∙ ap noted_value c.in_ok-x.ensures.tree ∙ leaf_value c.args.s.now c.args.asked.now (expression_of c.args.e.now) c.requires;
 }
