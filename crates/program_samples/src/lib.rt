@@ -3,8 +3,10 @@
 #![tactic(auto)]
 
 #[cfg(test)]
-mod cells;
+mod layout;
 #[cfg(test)]
-mod sample;
+mod paths;
+#[cfg(test)]
+mod programs;
 #[cfg(test)]
 mod tests;
