@@ -148,7 +148,7 @@ fn ints_where_they_are_asked(rt: HostRuntime) -> Result<(), Fail> {
     let truth = Asked::Wanted(StType::Elementary(Elem::Bool));
     assert!(rt; matches!(int_type(&truth, "1"), Some(StType::Elementary(Elem::Bool))));
     assert!(rt; matches!(negative_type(&truth), Some(StType::Elementary(Elem::Dint))));
-    assert!(rt; matches!(number_asked(&truth), Asked::Anything));
+    assert!(rt; matches!(&number_asked(&truth), Asked::Anything));
     assert!(rt; int_type(&Asked::Untold, "1").is_none());
     assert_eq!(rt;
         int_fault(7, "18446744073709551616", &None),
