@@ -1,0 +1,3 @@
+pub mod Checker
+pub mod Outcome
+pub mod Reports
