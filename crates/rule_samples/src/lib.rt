@@ -1,6 +1,8 @@
-//! What names, places, calls and expressions of texts mean and which rules they break, by example. There is nothing but tests here.
+//! What names, places, calls, expressions and bodies of texts mean and which rules they break, by example. There is nothing but tests here.
 #![tactic(auto)]
 
+#[cfg(test)]
+mod bodies;
 #[cfg(test)]
 mod calls;
 #[cfg(test)]

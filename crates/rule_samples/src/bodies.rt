@@ -1,193 +1,17 @@
-//! Bodies by example: outside of classes and in a method of the function block K, with functions F and PROC and variables of many
-//! types.
+//! Bodies by example: outside of classes, and in the method M of the function block K.
 
-use crate::check_body;
-use class_tables::ClassTables;
-use iface_tables::IfaceTables;
-use plc_series::Series;
-use plc_text::{Boxed, Code, Items, NoMemory, Text};
+use crate::setup::{PLANT, unit};
+use plc_text::{Code, Items, NoMemory};
+use st_check_body::check_body;
 use st_check_expr::Broken;
 use st_lexer::{lexemes, tokens};
-use st_parser_decl::parse;
 use st_parser_expr::Cursor;
 use st_parser_stmt::body_until;
-use st_rules::{
-    Access, DeclaredClass, DeclaredGlobal, DeclaredNames, DeclaredRoutine, DeclaredType,
-    DeclaredVariable, ResultType, TypeParts,
-};
-use st_scope::{NameTables, Scope};
-use st_tree::{ClassSort, SectionSort, Stmt, Target, Terminal, Unit};
-use st_types::{Elem, StType};
+use st_scope::Scope;
+use st_tree::{Stmt, Terminal};
 use std::alloc::Global;
 use std::test::Fail;
-
-const UNIT: &str = "FUNCTION_BLOCK K METHOD PUBLIC M END_METHOD END_FUNCTION_BLOCK";
-
-fn unit(alloc: Global) -> Result<Unit, NoMemory> {
-    let found = tokens(alloc, UNIT).map_err(|_| NoMemory)?;
-    parse(alloc, UNIT, &found).map_err(|_| NoMemory)
-}
-
-fn variable(
-    alloc: Global,
-    text: &str,
-    sort: SectionSort,
-    kind: Option<StType>,
-) -> Result<DeclaredVariable, NoMemory> {
-    let name = Text::copy(alloc, text)?;
-    Ok(DeclaredVariable {
-        name,
-        sort,
-        constant: false,
-        access: Access::Public,
-        located_input: false,
-        kind,
-        target: Target::Variable(0),
-    })
-}
-
-fn int() -> Option<StType> {
-    Some(StType::Elementary(Elem::Int))
-}
-
-/// An input A, an in-out IO and an output Q.
-fn parameters(alloc: Global) -> Result<Series<DeclaredVariable>, NoMemory> {
-    let mut all = Series::new(alloc);
-    for (name, sort) in [
-        ("A", SectionSort::Input),
-        ("IO", SectionSort::InOut),
-        ("Q", SectionSort::Output),
-    ] {
-        let one = variable(alloc, name, sort, int())?;
-        all.push(one)?;
-    }
-    Ok(all)
-}
-
-fn routine(
-    alloc: Global,
-    text: &str,
-    outcome: ResultType,
-    parameters: Series<DeclaredVariable>,
-) -> Result<DeclaredRoutine, NoMemory> {
-    let name = Text::copy(alloc, text)?;
-    Ok(DeclaredRoutine {
-        name,
-        access: Access::Public,
-        abstract_method: false,
-        outcome,
-        parameters,
-    })
-}
-
-/// A type of each sort that variables have here.
-fn kind_of(alloc: Global, word: &str) -> Result<Option<StType>, NoMemory> {
-    let kind = match word {
-        "BOOL" => StType::Elementary(Elem::Bool),
-        "SINT" => StType::Elementary(Elem::Sint),
-        "INT" => StType::Elementary(Elem::Int),
-        "DINT" => StType::Elementary(Elem::Dint),
-        "USINT" => StType::Elementary(Elem::Usint),
-        "BYTE" => StType::Elementary(Elem::Byte),
-        "TIME" => StType::Elementary(Elem::Time),
-        "E" => StType::Enumeration(0),
-        "K" => StType::Instance(0),
-        "REF_TO K" => StType::Reference(0),
-        "ARRAY" => {
-            let element = Boxed::new(alloc, StType::Elementary(Elem::Int))?;
-            StType::Array(0, 3, element)
-        }
-        _ => return Ok(None),
-    };
-    Ok(Some(kind))
-}
-
-/// Variables and the words for their types; where a type cannot be told, a word for none.
-const VARIABLES: [(&str, &str); 14] = [
-    ("B", "BOOL"),
-    ("SI", "SINT"),
-    ("I", "INT"),
-    ("D", "DINT"),
-    ("US", "USINT"),
-    ("BX", "BYTE"),
-    ("TI", "TIME"),
-    ("EV", "E"),
-    ("KI", "K"),
-    ("RK", "REF_TO K"),
-    ("ARR", "ARRAY"),
-    ("LOST", "?"),
-    ("IN", "INT"),
-    ("C1", "INT"),
-];
-
-/// The variables; C1 is a constant, IN lies at an input address.
-fn globals(alloc: Global) -> Result<Series<DeclaredGlobal>, NoMemory> {
-    let mut all = Series::new(alloc);
-    for (name, word) in &VARIABLES {
-        let kind = kind_of(alloc, word)?;
-        let mut one = variable(alloc, name, SectionSort::Global, kind)?;
-        one.constant = *name == "C1";
-        one.located_input = *name == "IN";
-        all.push(DeclaredGlobal::Variable(one))?;
-    }
-    let of_f = parameters(alloc)?;
-    let f = routine(alloc, "F", ResultType::Written(int()), of_f)?;
-    all.push(DeclaredGlobal::Function(0, f))?;
-    let proc = routine(alloc, "PROC", ResultType::Nothing, Series::new(alloc))?;
-    all.push(DeclaredGlobal::Function(1, proc))?;
-    Ok(all)
-}
-
-fn enumeration(alloc: Global) -> Result<TypeParts, NoMemory> {
-    let mut values = Items::new(alloc);
-    for name in ["RED", "BLUE"] {
-        let value = Text::copy(alloc, name)?;
-        values.push(value)?;
-    }
-    Ok(TypeParts::Values(values))
-}
-
-/// K has the variables that F has as parameters, a private N, and a method M with a parameter A.
-fn block(alloc: Global) -> Result<DeclaredClass, NoMemory> {
-    let mut variables = parameters(alloc)?;
-    let mut n = variable(alloc, "N", SectionSort::Var, int())?;
-    n.access = Access::Private;
-    variables.push(n)?;
-    let a = variable(alloc, "A", SectionSort::Input, int())?;
-    let mut of_m = Series::new(alloc);
-    of_m.push(a)?;
-    let m = routine(alloc, "M", ResultType::Written(int()), of_m)?;
-    let mut methods = Items::new(alloc);
-    methods.push(m)?;
-    Ok(DeclaredClass {
-        sort: ClassSort::FunctionBlock,
-        variables,
-        methods,
-    })
-}
-
-fn names(alloc: Global) -> Result<DeclaredNames, NoMemory> {
-    let e = Text::copy(alloc, "E")?;
-    let mut types = Series::new(alloc);
-    types.push(DeclaredType {
-        name: e,
-        kind: Some(StType::Enumeration(0)),
-    })?;
-    let values = enumeration(alloc)?;
-    let mut parts = Items::new(alloc);
-    parts.push(values)?;
-    let k = block(alloc)?;
-    let mut classes = Series::new(alloc);
-    classes.push(k)?;
-    let globals = globals(alloc)?;
-    Ok(DeclaredNames {
-        types,
-        parts,
-        classes,
-        interfaces: Items::new(alloc),
-        globals,
-    })
-}
+use unit_tables::UnitTables;
 
 /// The statements of a text.
 fn body(alloc: Global, text: &str) -> Result<Items<Stmt<u32>>, NoMemory> {
@@ -444,26 +268,38 @@ fn refusal(alloc: Global, s: &Scope<'_>, text: &str) -> Result<Option<(Code, u32
     }
 }
 
+/// The first text that is refused for something else than is told of it.
+fn first_other(
+    alloc: Global,
+    s: &Scope<'_>,
+    cases: &[Case],
+) -> Result<Option<&'static str>, NoMemory> {
+    for (text, wanted) in cases {
+        if refusal(alloc, s, text)? != *wanted {
+            return Ok(Some(*text));
+        }
+    }
+    Ok(None)
+}
+
+/// The same of all texts, outside of classes and in a method.
+fn first_other_anywhere(
+    alloc: Global,
+    tables: &UnitTables<'_>,
+) -> Result<Option<&'static str>, NoMemory> {
+    let outside = tables.scope(alloc, None, false, &[])?;
+    let inside = tables.scope(alloc, Some(0), true, &[])?;
+    let plain = first_other(alloc, &outside, &plain_cases())?;
+    let nested = first_other(alloc, &outside, &nested_cases())?;
+    let in_method = first_other(alloc, &inside, &method_cases())?;
+    Ok(plain.or(nested).or(in_method))
+}
+
 #[test]
 fn bodies(rt: HostRuntime) -> Result<(), Fail> {
     let alloc = rt.alloc();
-    let unit = unit(alloc)?;
-    let classes = ClassTables::build(alloc, &unit)?;
-    let interfaces = IfaceTables::build(alloc, &unit)?;
-    let tables = NameTables::build(alloc, &unit, &classes, names(alloc)?)?;
-    let outside = Scope::within(alloc, &tables, &classes, &interfaces, &[], None, false)?;
-    for (text, wanted) in plain_cases() {
-        let found = refusal(alloc, &outside, text)?;
-        assert!(rt; found == wanted, "{text}");
-    }
-    for (text, wanted) in nested_cases() {
-        let found = refusal(alloc, &outside, text)?;
-        assert!(rt; found == wanted, "{text}");
-    }
-    let inside = Scope::within(alloc, &tables, &classes, &interfaces, &[], Some(0), true)?;
-    for (text, wanted) in method_cases() {
-        let found = refusal(alloc, &inside, text)?;
-        assert!(rt; found == wanted, "{text}");
-    }
+    let unit = unit(alloc, PLANT)?;
+    let tables = UnitTables::build(alloc, &unit)?;
+    assert_eq!(rt; first_other_anywhere(alloc, &tables)?, None);
     Ok(())
 }
