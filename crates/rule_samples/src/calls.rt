@@ -60,17 +60,18 @@ const CALLS: [(&str, Option<Code>, bool, usize); 24] = [
 /// first argument is; 9 for none.
 fn told(
     alloc: Global,
-    s: &Scope<'_>,
+    tables: &UnitTables<'_>,
     text: &str,
 ) -> Result<(Option<(Code, u32)>, bool, usize), NoMemory> {
+    let s = tables.scope(alloc, None, false, &[])?;
     let (p, arguments) = call(alloc, text)?;
     let selectors = p.selectors.as_slice();
-    let called = callee_at(s, &p.root, selectors);
+    let called = callee_at(&s, &p.root, selectors);
     let operand = operand_of(alloc, called);
-    let parameters = callee_parameters(alloc, s, called, &operand)?;
+    let parameters = callee_parameters(alloc, &s, called, &operand)?;
     let heads = heads_of(alloc, arguments.as_slice())?;
     let on_super = is_on_super(&p.root, selectors);
-    let fault = callee_fault(alloc, s, 1, on_super, called, &parameters, &heads)?;
+    let fault = callee_fault(alloc, &s, 1, on_super, called, &parameters, &heads)?;
     let matched = matches(alloc, &parameters, &heads)?;
     let first = match matched.first() {
         Some(Some(m)) => m.number,
@@ -92,7 +93,10 @@ fn calls_outside_of_classes(rt: HostRuntime) -> Result<(), Fail> {
     let s = tables.scope(alloc, None, false, &[])?;
     for (text, code, gives, first) in &CALLS {
         let fault = code.map(|code| (code, 1));
-        assert!(rt; told(alloc, &s, text)? == (fault, *gives, *first), "{text}");
+        assert!(rt;
+            told(alloc, &tables, text)? == (fault, *gives, *first),
+            "{text}"
+        );
     }
     assert!(rt; root_fault(alloc, &s, "NOWHERE(1)")? == Some((Code::E05, 1)));
     assert!(rt; root_fault(alloc, &s, "INT_TO_DINT(1)")?.is_none());
