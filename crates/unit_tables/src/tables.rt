@@ -26,7 +26,6 @@ use type_sizes::TypeSizes;
 use unit_names::unit_names;
 
 /// The tables of a unit, which contracts see as the unit.
-#[derive(Drop)]
 pub struct UnitTables<'u> {
     unit: &'u Unit,
     classes: Vec<&'u ClassDecl<u32>>,
@@ -34,6 +33,20 @@ pub struct UnitTables<'u> {
     names: NameTables,
     sizes: TypeSizes,
     graph: DeclaredGraph,
+}
+
+// By hand, so that a drop is one call: a derived one is written out wherever a `?` may need it.
+impl Drop for UnitTables<'_> {
+    fn drop(self) {
+        let UnitTables {
+            unit: _,
+            classes: _,
+            interfaces: _,
+            names: _,
+            sizes: _,
+            graph: _,
+        } = self;
+    }
 }
 
 impl<'u> Model for UnitTables<'u> {
