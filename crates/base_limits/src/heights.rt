@@ -12,10 +12,9 @@ use class_tables::ClassTables;
 use graph_cycles::{Edge, nodes_to_cycles};
 use plc_text::{Code, NoMemory};
 use st_rules::when;
-use st_tree::{Decl, Unit, Used};
+use st_tree::{Decl, SeenUnit, Unit, Used};
 use std::alloc::Global;
 use std::marker::Model;
-use std::snapshot::Snapshot;
 
 /// Adds edges to the interfaces behind EXTENDS, as far as they are found.
 fn add_bases(
@@ -63,7 +62,7 @@ fn extends_edges(
 /// How high interfaces stand, which contracts see as the unit.
 #[derive(Drop)]
 pub struct InterfaceHeights {
-    of: Snapshot<Unit>,
+    of: SeenUnit,
     ways: Vec<bool>,
     cycles: Vec<bool>,
 }
@@ -100,7 +99,7 @@ impl InterfaceHeights {
         let ways = long_ways(alloc, count, &edges)?;
         let cycles = nodes_to_cycles(alloc, count, &edges)?;
         Ok(InterfaceHeights {
-            of: Snapshot::of(unit),
+            of: SeenUnit::of(unit),
             ways,
             cycles,
         })

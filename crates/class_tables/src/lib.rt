@@ -9,7 +9,6 @@ mod found;
 mod graph;
 mod laws;
 mod maps;
-mod seen;
 mod settle;
 mod store;
 mod tables;

@@ -17,13 +17,12 @@ use crate::broken::class_fault;
 use crate::chain::base;
 use crate::found;
 use crate::graph::lead;
-use crate::seen::Seen;
 use crate::settle::{Settled, settle_all};
 use class_rows::{UnitNames, UnitRows, first_place, names_of_unit, unit_rows};
 use graph_reach::Row;
 use plc_text::{Code, NoMemory, Text};
 use st_rules::{MethodId, Signatures};
-use st_tree::{Decl, Unit};
+use st_tree::{Decl, SeenUnit, Unit};
 use st_types::StType;
 use std::alloc::Global;
 use std::marker::Model;
@@ -56,7 +55,7 @@ fn parts_of(alloc: Global, decls: &[Decl<u32>]) -> Result<Parts, NoMemory>
 /// text, function blocks among the classes. What a name means is decided on cycles of bases and interfaces too.
 #[derive(Drop)]
 pub struct ClassTables {
-    of: Seen,
+    of: SeenUnit,
     names: UnitNames,
     rows: UnitRows,
     settled: Settled,
@@ -94,7 +93,7 @@ impl ClassTables {
             reach,
         } = parts;
         Ok(ClassTables {
-            of: Seen::of(unit),
+            of: SeenUnit::of(unit),
             names,
             rows,
             settled,

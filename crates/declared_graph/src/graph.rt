@@ -17,10 +17,9 @@ use declaration_list::list_declarations;
 use graph_cycles::{Edge, cycle_nodes, nodes_to_cycles};
 use plc_text::{Code, NoMemory, Text};
 use st_rules::{earlier, when};
-use st_tree::{Decl, Unit};
+use st_tree::{Decl, SeenUnit, Unit};
 use std::alloc::Global;
 use std::marker::Model;
-use std::snapshot::Snapshot;
 
 /// Which declarations contain themselves.
 #[tactic(auto, using(crate::proofs::GraphLaws::contained_edges_within))]
@@ -70,7 +69,7 @@ pub fn is_marked(marks: &[bool], i: usize) -> bool
 /// their places.
 #[derive(Drop)]
 pub struct DeclaredGraph {
-    of: Snapshot<Unit>,
+    of: SeenUnit,
     types: Places,
     containing: Vec<bool>,
     leading: Vec<bool>,
@@ -107,7 +106,7 @@ impl DeclaredGraph {
         let leading = leading(alloc, &known, &edges)?;
         let needing = needing(alloc, &known, decls)?;
         Ok(DeclaredGraph {
-            of: Snapshot::of(unit),
+            of: SeenUnit::of(unit),
             types: known.types,
             containing,
             leading,

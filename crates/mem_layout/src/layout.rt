@@ -19,11 +19,10 @@ use crate::sizes::{Measure, Tables, size_of};
 use crate::ways::way;
 use mem_image::At;
 use plc_text::{Items, NoMemory};
-use st_tree::{Path, Program, RegionDecl, Step};
+use st_tree::{Path, Program, RegionDecl, SeenProgram, Step};
 use st_types::StType;
 use std::alloc::Global;
 use std::marker::Model;
-use std::snapshot::Snapshot;
 
 /// Steps of containment that types may have, and one more.
 const DEPTH: u32 = 65;
@@ -38,7 +37,7 @@ pub struct Region {
 /// Where the values of a program lie in the images of its regions. Contracts see a layout as the program that it is of.
 #[derive(Drop)]
 pub struct Layout {
-    of: Snapshot<Program>,
+    of: SeenProgram,
     tables: Tables,
     regions: Items<Region>,
 }
@@ -100,7 +99,7 @@ impl Layout {
         let tables = tables_of(alloc, p)?;
         let regions = regions_of(alloc, &tables, p.regions.as_slice())?;
         Ok(Layout {
-            of: Snapshot::of(p),
+            of: SeenProgram::of(p),
             tables,
             regions,
         })

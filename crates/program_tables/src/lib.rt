@@ -8,7 +8,6 @@ mod graph;
 mod parts;
 mod places;
 mod routine;
-mod seen;
 mod tables;
 #[cfg(test)]
 mod tests;

@@ -8,9 +8,8 @@ ghost use Rattle.program_tables.specs.Routine.{routine_of};
 
 use crate::parts::{self, Tables, tables_of};
 use crate::routine::RoutineId;
-use crate::seen::Seen;
 use plc_text::{NoMemory, Text};
-use st_tree::Program;
+use st_tree::{Program, SeenProgram};
 use st_types::StType;
 use std::alloc::Global;
 use std::marker::Model;
@@ -20,7 +19,7 @@ use std::marker::Model;
 /// that the checker accepted.
 #[derive(Drop)]
 pub struct ProgramTables {
-    of: Seen,
+    of: SeenProgram,
     tables: Tables,
 }
 
@@ -47,7 +46,7 @@ impl ProgramTables {
     {
         let tables = tables_of(alloc, program)?;
         Ok(ProgramTables {
-            of: Seen::of(program),
+            of: SeenProgram::of(program),
             tables,
         })
     }

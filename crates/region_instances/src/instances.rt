@@ -15,15 +15,14 @@ use crate::held::{Counts, node_of};
 use graph_reach::{Row, find_reached};
 use plc_text::{Items, NoMemory};
 use st_initial::members_of;
-use st_tree::{Program, RegionDecl};
+use st_tree::{Program, RegionDecl, SeenProgram};
 use std::alloc::Global;
 use std::marker::Model;
-use std::snapshot::Snapshot;
 
 /// What regions hold, which contracts see as the program.
 #[derive(Drop)]
 pub struct RegionInstances {
-    of: Snapshot<Program>,
+    of: SeenProgram,
     counts: Counts,
     /// To which classes each node of the graph leads.
     rows: Vec<Row>,
@@ -119,7 +118,7 @@ impl RegionInstances {
         let rows = find_reached(alloc, &lists, members.classes.len())?;
         let nodes = region_nodes(alloc, counts, program.regions.as_slice())?;
         Ok(RegionInstances {
-            of: Snapshot::of(program),
+            of: SeenProgram::of(program),
             counts,
             rows,
             nodes,

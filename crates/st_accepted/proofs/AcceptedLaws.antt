@@ -1,7 +1,9 @@
 -- A source has one reading, so it is refused for one thing, and not when it is accepted.
-use Rattle.std.proofs.Common.{◌≡◌, ◌<◌, ◌≤◌, ℕ, List, ◌++◌, map, length, refl, sym, ap, ◌∙◌, subst, arith}
+use Rattle.std.proofs.Common.{◌≡◌, ◌<◌, ◌≤◌, ℕ, false, List, ◌++◌, map, length, refl, sym, ap, ◌∙◌, subst, arith}
 use Rattle.plc_text.specs.Lines.{line_of}
+use Rattle.plc_text.specs.Code.{is_e17}
 use Rattle.plc_text.specs.declared.code.Code.{Code}
+use Rattle.plc_text.specs.declared.code.Code.TheVariants as code
 use Rattle.st_tree.specs.declared.program.Program.{Program}
 use Rattle.st_tree.specs.declared.unit.Unit.{Unit as ProgramText}
 use Rattle.st_tree.specs.Declarations.{Derives}
@@ -14,8 +16,11 @@ use Rattle.st_tree.proofs.TokenLaws as token_law
 use Rattle.st_parser_decl.proofs.Units as u
 use Rattle.st_parser_decl.proofs.Stopping as s
 use Rattle.st_prelude.specs.Prelude.{without_line, IsPrelude}
+use Rattle.st_unit_rules.specs.Checked.{IsChecked}
 use Rattle.st_unit_rules.specs.UnitRefusal.{UnitRefusal}
 use Rattle.st_unit_rules.proofs.RefusalLaws as r
+use Rattle.refusal_codes.proofs.RefusalCodes.{refusal_codes}
+use Rattle.st_accepted.proofs.OneChecked.{one_checked}
 use Rattle.st_accepted.specs.Accepted.{most_bytes, IsUnit, Accepted, RefusedFor, too_long, bad_place, no_unit, bad_unit}
 use Rattle.st_accepted.specs.AcceptedLaws.{AcceptedLaws}
 
@@ -48,6 +53,9 @@ module _ (prelude text : List ℕ) where
   refused_unit a code declaration line x ts h k =
       s.never_both (lexemes x.tokens) x.unit code k.place x.flat
       (subst (λ us. IsRefusedAt code (lexemes us) k.place) (same_tokens ts x.tokens h x.tokens-are) k.refused)
+
+  one_program : (p q : Program) → Accepted prelude text p → Accepted prelude text q → p ≡ q
+  one_program p q a b = one_checked b.whole.decls p q (subst (λ ds. IsChecked ds p) (same_decls a.whole b.whole a.is_unit b.is_unit) a.checked) b.checked
 
   never_both : (p : Program) (code : Code) (declaration : List ℕ) (line : ℕ) → Accepted prelude text p → RefusedFor prelude text code declaration line → ⊥
   never_both p _ _ _ a (too_long h) = too_much (length text) a.is_unit.fits h
@@ -87,5 +95,32 @@ module _ (prelude text : List ℕ) where
   one_refusal code code' declaration declaration' line line' (bad_unit whole x k) (bad_unit whole' y l) =
       r.one whole.decls code code' declaration declaration' line line' k (subst (λ ds. UnitRefusal ds code' declaration' line') (sym (same_decls whole whole' x y)) l)
 
+  -- ---- codes
+
+  at_code : (c : Code) (ts : List Lexeme) (p : ℕ) → IsRefusedAt c ts p → is_e17 c ≡ false
+  at_code code.E01 ts p h = refl
+  at_code code.E02 ts p h = refl
+  at_code code.E03 ts p h = refl
+  at_code code.E04 ts p h = refl
+  at_code code.E05 ts p h = refl
+  at_code code.E06 ts p h = refl
+  at_code code.E07 ts p h = refl
+  at_code code.E08 ts p h = refl
+  at_code code.E09 ts p h = refl
+  at_code code.E10 ts p h = refl
+  at_code code.E11 ts p h = refl
+  at_code code.E12 ts p h = refl
+  at_code code.E13 ts p h = refl
+  at_code code.E14 ts p h = refl
+  at_code code.E15 ts p h = refl
+  at_code code.E16 ts p h = refl
+  at_code code.E17 ts p h = absurd h
+
+  no_hook : (code : Code) (declaration : List ℕ) (line : ℕ) → RefusedFor prelude text code declaration line → is_e17 code ≡ false
+  no_hook _ _ _ (too_long h) = refl
+  no_hook _ _ _ (bad_place f before place b) = refl
+  no_hook code _ _ (no_unit f ts t k) = at_code code (lexemes ts) k.place k.refused
+  no_hook code declaration line (bad_unit whole x k) = refusal_codes.refusals whole.decls code declaration line k
+
 pub accepted_laws : AcceptedLaws
-accepted_laws = record { never_both = never_both; one_refusal = one_refusal }
+accepted_laws = record { one_program = one_program; never_both = never_both; one_refusal = one_refusal; no_hook = no_hook }

@@ -9,6 +9,7 @@ ghost use Rattle.st_parser_expr.specs.Private.Promises as e;
 ghost use Rattle.st_parser_stmt.specs.Private.Promises as m;
 ghost use Rattle.st_parser_stmt.specs.Private.Promises.{Parses, Fails, same};
 
+use crate::held::Held;
 use crate::number::is_same;
 use plc_text::{Items, Text};
 use st_parser_expr as expr;
@@ -78,13 +79,14 @@ pub fn expression_then(
     alloc: Global,
     tokens: &mut Cursor<'_, '_>,
     terminal: Terminal,
-) -> Result<Expr<u32>, Stop>
+) -> Result<Held<Expr<u32>>, Stop>
     ensures ok { IfOk result (λ v. m.ReadsThen (g.expression (expression_of v) 0 ⋆ g.sign terminal) terminal tokens.old tokens.new) }
     ensures err { IfErr result (m.ThenFails terminal tokens.old) }
 {
     let value = expression(alloc, tokens)?;
+    let held = Held::new(value);
     sign(tokens, terminal)?;
-    Ok(value)
+    Ok(held)
 }
 
 pub fn arguments(alloc: Global, tokens: &mut Cursor<'_, '_>) -> Result<Items<Argument<u32>>, Stop>

@@ -11,6 +11,7 @@ ghost use Rattle.st_parser_expr.specs.Private.Promises as e;
 ghost use Rattle.st_parser_stmt.specs.Private.Promises as m;
 ghost use Rattle.st_parser_stmt.specs.Private.Promises.{Parses, Fails, same};
 
+use crate::held::Held;
 use crate::label::{is_const, is_label, labels};
 use crate::leaf::{
     arguments, eat, expression, expression_then, is_next, is_statement, place, sign, word,
@@ -32,11 +33,13 @@ fn simple(alloc: Global, tokens: &mut Cursor<'_, '_>) -> Result<Stmt<u32>, Stop>
         Some(Terminal::Assign) => {
             tokens.bump();
             let value = expression_then(alloc, tokens, Terminal::Semicolon)?;
+            let value = value.into_inner();
             Ok(Stmt::Assign(line, line, place, value))
         }
         Some(Terminal::Attempt) => {
             tokens.bump();
             let value = expression_then(alloc, tokens, Terminal::Semicolon)?;
+            let value = value.into_inner();
             Ok(Stmt::Attempt(line, line, place, value))
         }
         Some(Terminal::Open) => {
@@ -54,9 +57,9 @@ fn simple(alloc: Global, tokens: &mut Cursor<'_, '_>) -> Result<Stmt<u32>, Stop>
 struct Control {
     note: u32,
     name: Text,
-    from: Expr<u32>,
-    to: Expr<u32>,
-    by: Option<Expr<u32>>,
+    from: Held<Expr<u32>>,
+    to: Held<Expr<u32>>,
+    by: Held<Option<Expr<u32>>>,
 }
 
 fn step(alloc: Global, tokens: &mut Cursor<'_, '_>) -> Result<Option<Expr<u32>>, Stop>
@@ -65,6 +68,7 @@ fn step(alloc: Global, tokens: &mut Cursor<'_, '_>) -> Result<Option<Expr<u32>>,
 {
     if eat(tokens, Terminal::By) {
         let by = expression_then(alloc, tokens, Terminal::Do)?;
+        let by = by.into_inner();
         Ok(Some(by))
     } else if eat(tokens, Terminal::Do) {
         Ok(None)
@@ -82,7 +86,9 @@ fn heading(alloc: Global, tokens: &mut Cursor<'_, '_>) -> Result<Control, Stop>
     sign(tokens, Terminal::Assign)?;
     let from = expression_then(alloc, tokens, Terminal::To)?;
     let to = expression(alloc, tokens)?;
+    let to = Held::new(to);
     let by = step(alloc, tokens)?;
+    let by = Held::new(by);
     Ok(Control {
         note,
         name,
@@ -175,6 +181,7 @@ fn branches(alloc: Global, tokens: &mut Cursor<'_, '_>) -> Result<Items<Branch<u
     loop {
         let condition = expression_then(alloc, tokens, Terminal::Then)?;
         let body = body(alloc, tokens)?;
+        let condition = condition.into_inner();
         found.push(Branch { condition, body })?;
         if eat(tokens, Terminal::Elsif) {} else {
             return Ok(found);
@@ -211,6 +218,7 @@ fn selection(alloc: Global, tokens: &mut Cursor<'_, '_>) -> Result<Stmt<u32>, St
     let value = expression_then(alloc, tokens, Terminal::Of)?;
     let found = cases(alloc, tokens)?;
     let other = otherwise(alloc, tokens, Terminal::EndCase)?;
+    let value = value.into_inner();
     Ok(Stmt::Case(line, value, found, other))
 }
 
@@ -269,6 +277,9 @@ fn counting(alloc: Global, tokens: &mut Cursor<'_, '_>) -> Result<Stmt<u32>, Sto
         to,
         by,
     } = control;
+    let from = from.into_inner();
+    let to = to.into_inner();
+    let by = by.into_inner();
     Ok(Stmt::For(line, note, name, from, to, by, body))
 }
 
@@ -282,6 +293,7 @@ fn looping(alloc: Global, tokens: &mut Cursor<'_, '_>) -> Result<Stmt<u32>, Stop
     tokens.bump();
     let condition = expression_then(alloc, tokens, Terminal::Do)?;
     let body = body_until(alloc, tokens, Terminal::EndWhile)?;
+    let condition = condition.into_inner();
     Ok(Stmt::While(line, condition, body))
 }
 
@@ -295,6 +307,7 @@ fn repeating(alloc: Global, tokens: &mut Cursor<'_, '_>) -> Result<Stmt<u32>, St
     tokens.bump();
     let body = body_until(alloc, tokens, Terminal::Until)?;
     let condition = expression_then(alloc, tokens, Terminal::EndRepeat)?;
+    let condition = condition.into_inner();
     Ok(Stmt::Repeat(line, body, condition))
 }
 

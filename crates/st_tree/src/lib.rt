@@ -13,6 +13,7 @@ mod name;
 mod number;
 mod path;
 mod program;
+mod seen;
 mod statement;
 mod terminal;
 #[cfg(test)]
@@ -35,6 +36,7 @@ pub use name::{Name, Used};
 pub use number::number_of;
 pub use path::{Path, Step, Steps};
 pub use program::{Note, Program, RegionDecl, Target, TaskDecl};
+pub use seen::{SeenProgram, SeenUnit};
 pub use statement::{Branch, Case, Label, LabelEnd, Otherwise, Stmt};
 pub use terminal::{Terminal, is_keyword, keyword, symbol, terminal_laws, terminal_of};
 pub use token::{TokenKind, token_laws};

@@ -1,3 +1,4 @@
+use Rattle.std.proofs.Common.{◌≡◌}
 use Rattle.std.proofs.lemmas.Result.{err_from_is_err_and}
 use Rattle.st_parser_stmt.proofs.Rules as r
 use Rattle.st_parser_stmt.proofs.leaf.expression_then.Goals as goal
@@ -13,4 +14,6 @@ returns-in_err-sign-clause-err c =
     rw (p.1, p.2) (r.then-sign-fails _ c.args.terminal c.args.tokens.now c.expression.new.tokens _ c.in_ok-value.ensures.ok c.in_err-sign.ensures.err)
 
 pub returns-clause-ok : goal.returns-clause-ok
-returns-clause-ok c = r.reads-then _ _ _ _ _ c.in_ok-value.ensures.ok c.in_ok-sign.ensures.ok
+returns-clause-ok c =
+    let e : c.new-held.result ≡ c.in_ok-value.value = c.new-held.ensures in
+    rw e (r.reads-then _ _ _ _ _ c.in_ok-value.ensures.ok c.in_ok-sign.ensures.ok)

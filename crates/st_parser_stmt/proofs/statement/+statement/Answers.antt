@@ -33,10 +33,14 @@ branches-returns-in_err-body-clause-err t c =
     rw (p.1, p.2) (r.branches-body-fail c.loop-found.found _ c.args.tokens.now c.loop-found.tokens c.expression_then.new.tokens _ c.loop-found.invariant c.in_ok-condition.ensures.ok c.in_err-body.ensures.err)
 
 pub branches-loop-found-preserved : goal.branches-loop-found-preserved
-branches-loop-found-preserved t c = rw c.in_ok-push.ensures.ok (r.branches-pushed c.loop-found.found _ _ _ _ _ c.loop-found.invariant (r.branched _ _ _ _ c.in_ok-condition.ensures.ok c.in_ok-body.ensures.ok c.in_ok-body.ensures.ends) (c.if-eat.ensures.yes refl))
+branches-loop-found-preserved t c =
+    let e : c.into_inner-condition.result ≡ c.in_ok-condition.condition = c.into_inner-condition.ensures in
+    rw (c.in_ok-push.ensures.ok, e) (r.branches-pushed c.loop-found.found _ _ _ _ _ c.loop-found.invariant (r.branched _ _ _ _ c.in_ok-condition.ensures.ok c.in_ok-body.ensures.ok c.in_ok-body.ensures.ends) (c.if-eat.ensures.yes refl))
 
 pub branches-returns-else-eat-clause-ok : goal.branches-returns-else-eat-clause-ok
-branches-returns-else-eat-clause-ok t c = rw (c.in_ok-push.ensures.ok, c.if-eat.ensures.no refl) (r.branches-read c.loop-found.found _ _ _ _ c.loop-found.invariant (r.branched _ _ _ _ c.in_ok-condition.ensures.ok c.in_ok-body.ensures.ok c.in_ok-body.ensures.ends))
+branches-returns-else-eat-clause-ok t c =
+    let e : c.into_inner-condition.result ≡ c.in_ok-condition.condition = c.into_inner-condition.ensures in
+    rw (c.in_ok-push.ensures.ok, e, c.if-eat.ensures.no refl) (r.branches-read c.loop-found.found _ _ _ _ c.loop-found.invariant (r.branched _ _ _ _ c.in_ok-condition.ensures.ok c.in_ok-body.ensures.ok c.in_ok-body.ensures.ends))
 
 pub branches-returns-else-eat-clause-ends : goal.branches-returns-else-eat-clause-ends
 branches-returns-else-eat-clause-ends t c = rw (c.if-eat.ensures.no refl) (c.if-eat.ensures.not refl)
@@ -73,7 +77,9 @@ selection-returns-in_err-other-clause-err t c =
     rw (p.1, p.2) (r.case-end-fails _ _ c.args.tokens.now c.bump.new.self c.expression_then.new.tokens c.cases.new.tokens _ c.requires c.bump.ensures c.in_ok-value.ensures.ok c.in_ok-found.ensures.ok c.in_err-other.ensures.err)
 
 pub selection-returns-clause-ok : goal.selection-returns-clause-ok
-selection-returns-clause-ok t c = r.stated _ _ _ _ (view.statement_of-Case _ _ _ _) (r.reads-case _ _ _ _ _ _ _ _ _ c.line-line.ensures c.requires c.bump.ensures c.in_ok-value.ensures.ok c.in_ok-found.ensures.ok c.in_ok-other.ensures.ok)
+selection-returns-clause-ok t c =
+    let e : c.into_inner-value.result ≡ c.in_ok-value.value = c.into_inner-value.ensures in
+    rw e (r.stated _ _ _ _ (view.statement_of-Case _ _ _ _) (r.reads-case _ _ _ _ _ _ _ _ _ c.line-line.ensures c.requires c.bump.ensures c.in_ok-value.ensures.ok c.in_ok-found.ensures.ok c.in_ok-other.ensures.ok))
 
 pub cases-returns-else-is_const-clause-ok : goal.cases-returns-else-is_const-clause-ok
 cases-returns-else-is_const-clause-ok t c = rw c.new-found.ensures (r.cases-none _ (sym c.if-is_const.ensures))
@@ -131,7 +137,11 @@ counting-returns-in_err-body-clause-err t c =
     rw (p.1, p.2) (r.for-body-fails _ c.args.tokens.now c.bump.new.self c.heading.new.tokens _ c.requires c.bump.ensures c.in_ok-control.ensures.ok c.in_err-body.ensures.err)
 
 pub counting-returns-clause-ok : goal.counting-returns-clause-ok
-counting-returns-clause-ok t c = r.stated _ _ _ _ (view.statement_of-For _ _ _ _ _ _ _) (r.reads-for _ c.in_ok-control.control _ _ _ _ _ c.line-line.ensures c.requires c.bump.ensures c.in_ok-control.ensures.ok c.in_ok-body.ensures.ok)
+counting-returns-clause-ok t c =
+    let from : c.into_inner-from.result ≡ c.in_ok-control.control.from = c.into_inner-from.ensures in
+    let to : c.into_inner-to.result ≡ c.in_ok-control.control.to = c.into_inner-to.ensures in
+    let by : c.into_inner-by.result ≡ c.in_ok-control.control.by = c.into_inner-by.ensures in
+    rw (from, to, by) (r.stated _ _ _ _ (view.statement_of-For _ _ _ _ _ _ _) (r.reads-for _ c.in_ok-control.control _ _ _ _ _ c.line-line.ensures c.requires c.bump.ensures c.in_ok-control.ensures.ok c.in_ok-body.ensures.ok))
 
 pub looping-returns-in_err-condition-clause-err : goal.looping-returns-in_err-condition-clause-err
 looping-returns-in_err-condition-clause-err t c =
@@ -144,7 +154,9 @@ looping-returns-in_err-body-clause-err t c =
     rw (p.1, p.2) (r.while-body-fails _ c.args.tokens.now c.bump.new.self c.expression_then.new.tokens _ c.requires c.bump.ensures c.in_ok-condition.ensures.ok c.in_err-body.ensures.err)
 
 pub looping-returns-clause-ok : goal.looping-returns-clause-ok
-looping-returns-clause-ok t c = r.stated _ _ _ _ (view.statement_of-While _ _ _) (r.reads-while _ _ _ _ _ _ _ c.line-line.ensures c.requires c.bump.ensures c.in_ok-condition.ensures.ok c.in_ok-body.ensures.ok)
+looping-returns-clause-ok t c =
+    let e : c.into_inner-condition.result ≡ c.in_ok-condition.condition = c.into_inner-condition.ensures in
+    rw e (r.stated _ _ _ _ (view.statement_of-While _ _ _) (r.reads-while _ _ _ _ _ _ _ c.line-line.ensures c.requires c.bump.ensures c.in_ok-condition.ensures.ok c.in_ok-body.ensures.ok))
 
 pub repeating-returns-in_err-body-clause-err : goal.repeating-returns-in_err-body-clause-err
 repeating-returns-in_err-body-clause-err t c =
@@ -157,7 +169,9 @@ repeating-returns-in_err-condition-clause-err t c =
     rw (p.1, p.2) (r.repeat-until-fails _ c.args.tokens.now c.bump.new.self c.body_until.new.tokens _ c.requires c.bump.ensures c.in_ok-body.ensures.ok c.in_err-condition.ensures.err)
 
 pub repeating-returns-clause-ok : goal.repeating-returns-clause-ok
-repeating-returns-clause-ok t c = r.stated _ _ _ _ (view.statement_of-Repeat _ _ _) (r.reads-repeat _ _ _ _ _ _ _ c.line-line.ensures c.requires c.bump.ensures c.in_ok-body.ensures.ok c.in_ok-condition.ensures.ok)
+repeating-returns-clause-ok t c =
+    let e : c.into_inner-condition.result ≡ c.in_ok-condition.condition = c.into_inner-condition.ensures in
+    rw e (r.stated _ _ _ _ (view.statement_of-Repeat _ _ _) (r.reads-repeat _ _ _ _ _ _ _ c.line-line.ensures c.requires c.bump.ensures c.in_ok-body.ensures.ok c.in_ok-condition.ensures.ok))
 
 pub body-returns-in_err-one-clause-err : goal.body-returns-in_err-one-clause-err
 body-returns-in_err-one-clause-err t c =

@@ -1,3 +1,4 @@
+use Rattle.std.proofs.Common.{◌≡◌}
 use Rattle.std.proofs.lemmas.Result.{err_from_is_err_and}
 use Rattle.st_parser_stmt.proofs.Rules as r
 use Rattle.st_parser_stmt.proofs.statement.heading.Goals as goal
@@ -28,4 +29,7 @@ returns-in_err-by-clause-err c =
     rw (p.1, p.2) (r.control-fails-step _ _ _ c.args.tokens.now c.word.new.tokens c.sign.new.tokens c.expression_then.new.tokens c.expression.new.tokens _ c.in_ok-name.ensures.ok c.in_ok-sign.ensures.ok c.in_ok-from.ensures.ok c.in_ok-to.ensures.ok c.in_err-by.ensures.err)
 
 pub returns-clause-ok : goal.returns-clause-ok
-returns-clause-ok c = r.reads-control _ _ _ _ _ _ _ c.line-note.ensures c.in_ok-name.ensures.ok c.in_ok-sign.ensures.ok c.in_ok-from.ensures.ok c.in_ok-to.ensures.ok c.in_ok-by.ensures.ok
+returns-clause-ok c =
+    let to : c.new-to.result ≡ c.in_ok-to.to = c.new-to.ensures in
+    let by : c.new-by.result ≡ c.in_ok-by.by = c.new-by.ensures in
+    rw (to, by) (r.reads-control (record { note = c.line-note.result; name = c.in_ok-name.name; from = c.in_ok-from.from; to = c.in_ok-to.to; by = c.in_ok-by.by }) _ _ _ _ _ _ c.line-note.ensures c.in_ok-name.ensures.ok c.in_ok-sign.ensures.ok c.in_ok-from.ensures.ok c.in_ok-to.ensures.ok c.in_ok-by.ensures.ok)

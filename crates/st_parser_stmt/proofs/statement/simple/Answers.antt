@@ -34,12 +34,14 @@ returns-in_err-sign-in-Some-Open-clause-err c =
 pub returns-in_ok-value-in-Some-Assign-clause-ok : goal.returns-in_ok-value-in-Some-Assign-clause-ok
 returns-in_ok-value-in-Some-Assign-clause-ok c =
     let next : next_terminal c.place.new.tokens ≡ Some x.Assign = cc in
-    r.stated _ _ _ _ (view.statement_of-Assign _ _ _ _) (r.reads-assign _ _ _ _ _ _ _ _ c.line-line.ensures c.in_ok-place.ensures.ok next c.bump.ensures c.in_ok-value-in-Some-Assign.ensures.ok)
+    let e : c.into_inner-value.result ≡ c.in_ok-value-in-Some-Assign.value = c.into_inner-value.ensures in
+    rw e (r.stated _ _ _ _ (view.statement_of-Assign _ _ _ _) (r.reads-assign _ _ _ _ _ _ _ _ c.line-line.ensures c.in_ok-place.ensures.ok next c.bump.ensures c.in_ok-value-in-Some-Assign.ensures.ok))
 
 pub returns-in_ok-value-in-Some-Attempt-clause-ok : goal.returns-in_ok-value-in-Some-Attempt-clause-ok
 returns-in_ok-value-in-Some-Attempt-clause-ok c =
     let next : next_terminal c.place.new.tokens ≡ Some x.Attempt = cc in
-    r.stated _ _ _ _ (view.statement_of-Attempt _ _ _ _) (r.reads-attempt _ _ _ _ _ _ _ _ c.line-line.ensures c.in_ok-place.ensures.ok next c.bump-in-Some-Attempt.ensures c.in_ok-value-in-Some-Attempt.ensures.ok)
+    let e : c.into_inner-value-in-Some-Attempt.result ≡ c.in_ok-value-in-Some-Attempt.value = c.into_inner-value-in-Some-Attempt.ensures in
+    rw e (r.stated _ _ _ _ (view.statement_of-Attempt _ _ _ _) (r.reads-attempt _ _ _ _ _ _ _ _ c.line-line.ensures c.in_ok-place.ensures.ok next c.bump-in-Some-Attempt.ensures c.in_ok-value-in-Some-Attempt.ensures.ok))
 
 pub returns-in_ok-sign-in-Some-Open-clause-ok : goal.returns-in_ok-sign-in-Some-Open-clause-ok
 returns-in_ok-sign-in-Some-Open-clause-ok c =

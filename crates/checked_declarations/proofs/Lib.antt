@@ -1,0 +1,3 @@
+pub mod FaultsHere
+pub mod PassedLaws
+pub mod PassLaws

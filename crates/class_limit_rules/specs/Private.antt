@@ -1,0 +1,4 @@
+-- The words of private contracts.
+pub mod Counts
+pub mod Dimensions
+pub mod Limits

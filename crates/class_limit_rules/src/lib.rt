@@ -1,0 +1,8 @@
+//! The limits of a class or a function block: methods, parameters and locals of its body, bases, and depth (E16).
+#![tactic(auto)]
+
+mod counts;
+mod dimensions;
+mod limits;
+
+pub use limits::class_limit_fault;

@@ -1,0 +1,2 @@
+pub mod ConfigurationLaws
+pub mod InstanceLaws

@@ -1,0 +1,6 @@
+//! The words of the command line, as they order what the program does.
+#![tactic(auto)]
+
+mod words;
+
+pub use words::{Order, order_of};

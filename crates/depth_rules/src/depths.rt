@@ -1,0 +1,121 @@
+//! How deep written types are, and those of the variables and of the result of a routine.
+
+ghost use Rattle.std.specs.Prelude.{◌≡◌, flat_map, IfOk};
+ghost use Rattle.st_rules.specs.Faults.{least};
+ghost use Rattle.declared_names.specs.Declarations.{declarations};
+ghost use Rattle.st_unit_rules.specs.DeclarationRules as rules;
+ghost use Rattle.st_unit_rules.specs.Limits as limits;
+ghost use Rattle.type_sizes.specs.Sizes.{Measures};
+ghost use Rattle.limit_rules.specs.Depths.{allowed};
+
+use declaration_list::item_line;
+use declared_graph::DeclaredGraph;
+use limit_rules::{Within, too_deep};
+use plc_text::{Code, NoMemory};
+use st_rules::earlier;
+use st_scope::Scope;
+use st_tree::{Item, Section, TypeSpec};
+use std::alloc::Global;
+use type_rules::check_type;
+use type_sizes::TypeSizes;
+
+/// E16 at the line, where a written type has too many steps of containment, or too many dimensions. The sizes are those of the unit
+/// that the scope sees. It takes time linear in the text.
+pub fn type_depth_fault(
+    alloc: Global,
+    s: &Scope<'_>,
+    sizes: &TypeSizes,
+    graph: &DeclaredGraph,
+    within: Within,
+    line: u32,
+    spec: &TypeSpec<u32>,
+) -> Result<Option<(Code, u32)>, NoMemory>
+    requires { Measures sizes.now s.now }
+    ensures { IfOk result (λ f. f ≡ least (limits.too_deep s.now (declarations graph.now.decls) (allowed within) line spec.now)) }
+{
+    let found = check_type(alloc, s, spec)?;
+    Ok(too_deep(
+        sizes,
+        graph,
+        within,
+        line,
+        spec,
+        &found.kind,
+        found.too_many,
+    ))
+}
+
+fn item_depth_fault(
+    alloc: Global,
+    s: &Scope<'_>,
+    sizes: &TypeSizes,
+    graph: &DeclaredGraph,
+    item: &Item<u32>,
+) -> Result<Option<(Code, u32)>, NoMemory>
+    requires { Measures sizes.now s.now }
+    ensures { IfOk result (λ f. f ≡ least (rules.item_too_deep graph.now.decls s.now item.now)) }
+{
+    let line = item_line(item);
+    let found = type_depth_fault(alloc, s, sizes, graph, Within::Unit, line, &item.kind)?;
+    Ok(found)
+}
+
+/// E16 at the least line of an item of a section whose type is too deep.
+fn section_depth_fault(
+    alloc: Global,
+    s: &Scope<'_>,
+    sizes: &TypeSizes,
+    graph: &DeclaredGraph,
+    items: &[Item<u32>],
+) -> Result<Option<(Code, u32)>, NoMemory>
+    requires { Measures sizes.now s.now }
+    ensures { IfOk result (λ f. f ≡ least (flat_map (rules.item_too_deep graph.now.decls s.now) items.now)) }
+{
+    let mut found = None;
+    for item in items {
+        let one = item_depth_fault(alloc, s, sizes, graph, item)?;
+        found = earlier(found, one);
+    }
+    Ok(found)
+}
+
+/// E16 at the least line of an item of sections whose type is too deep.
+pub fn items_depth_fault(
+    alloc: Global,
+    s: &Scope<'_>,
+    sizes: &TypeSizes,
+    graph: &DeclaredGraph,
+    sections: &[Section<u32>],
+) -> Result<Option<(Code, u32)>, NoMemory>
+    requires { Measures sizes.now s.now }
+    ensures { IfOk result (λ f. f ≡ least (flat_map (rules.item_too_deep graph.now.decls s.now) (rules.items_in sections.now))) }
+{
+    let mut found = None;
+    for section in sections {
+        let items = section.items.as_slice();
+        let own = section_depth_fault(alloc, s, sizes, graph, items)?;
+        found = earlier(found, own);
+    }
+    Ok(found)
+}
+
+/// E16 at the line of a routine whose result is too deep, where it has one.
+pub fn result_depth_fault(
+    alloc: Global,
+    s: &Scope<'_>,
+    sizes: &TypeSizes,
+    graph: &DeclaredGraph,
+    line: u32,
+    spec: &Option<TypeSpec<u32>>,
+) -> Result<Option<(Code, u32)>, NoMemory>
+    requires { Measures sizes.now s.now }
+    ensures { IfOk result (λ f. f ≡ least (rules.result_too_deep graph.now.decls s.now line spec.now)) }
+{
+    match spec {
+        Some(spec) => {
+            let found = type_depth_fault(alloc, s, sizes, graph, Within::Unit, line, spec)?;
+            Ok(found)
+        }
+        None => Ok(None),
+    }
+}

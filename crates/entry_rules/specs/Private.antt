@@ -1,0 +1,4 @@
+-- The words of private contracts.
+pub mod Groups
+pub mod Bodies
+pub mod Entries

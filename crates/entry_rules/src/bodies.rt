@@ -1,0 +1,99 @@
+//! What a name of TYPE stands for.
+
+ghost use Rattle.std.specs.Prelude.{◌≡◌, IfOk};
+ghost use Rattle.st_unit_rules.specs.DeclarationRules as rules;
+ghost use Rattle.type_sizes.specs.Sizes.{Measures};
+ghost use Rattle.entry_rules.specs.Private.Bodies.{IsAlias, IsEnumeration, IsStructure, BodyChecks};
+
+use crate::groups::{CheckedGroups, check_groups};
+use declared_graph::DeclaredGraph;
+use limit_rules::{Within, structure_too_deep, too_deep};
+use plc_text::{Code, NoMemory};
+use st_rules::earlier;
+use st_scope::Scope;
+use st_tree::{Name, Note, TypeBody};
+use std::alloc::Global;
+use type_rules::{CheckedType, check_type};
+use type_sizes::TypeSizes;
+use variable_rules::copied_names;
+
+/// What is found out about what a name stands for, with its depth.
+#[derive(Drop)]
+pub struct CheckedBody {
+    pub least: Option<(Code, u32)>,
+    pub body: TypeBody<Note>,
+}
+
+fn alias_of(found: CheckedType, deep: Option<(Code, u32)>) -> CheckedBody
+    ensures { IsAlias result found deep }
+{
+    let CheckedType {
+        kind: _,
+        least,
+        too_many: _,
+        tree,
+    } = found;
+    CheckedBody {
+        least: earlier(least, deep),
+        body: TypeBody::Alias(tree),
+    }
+}
+
+fn enumeration_of(alloc: Global, names: &[Name]) -> Result<CheckedBody, NoMemory>
+    ensures { IfOk result (λ c. IsEnumeration c names.now) }
+{
+    let names = copied_names(alloc, names)?;
+    Ok(CheckedBody {
+        least: None,
+        body: TypeBody::Enumeration(names),
+    })
+}
+
+fn structure_of(found: CheckedGroups, depth: Option<(Code, u32)>) -> CheckedBody
+    ensures { IsStructure result found depth }
+{
+    let CheckedGroups {
+        least,
+        too_many: _,
+        groups,
+    } = found;
+    CheckedBody {
+        least: earlier(least, depth),
+        body: TypeBody::Structure(groups),
+    }
+}
+
+/// Checks what the entry of TYPE with this number stands for, which is the declaration at this place and stands at this line.
+pub fn check_body(
+    alloc: Global,
+    s: &Scope<'_>,
+    sizes: &TypeSizes,
+    graph: &DeclaredGraph,
+    line: u32,
+    place: usize,
+    number: u32,
+    body: &TypeBody<u32>,
+) -> Result<CheckedBody, NoMemory>
+    requires unit { s.now ≡ rules.unit graph.now.decls }
+    requires sizes { Measures sizes.now s.now }
+    ensures { IfOk result (λ c. BodyChecks c graph.now.decls line place number body.now) }
+{
+    match body {
+        TypeBody::Alias(spec) => {
+            let found = check_type(alloc, s, spec)?;
+            let many = found.too_many;
+            let depth = too_deep(sizes, graph, Within::Unit, line, spec, &found.kind, many);
+            Ok(alias_of(found, depth))
+        }
+        TypeBody::Enumeration(names) => {
+            let c = enumeration_of(alloc, names.as_slice())?;
+            Ok(c)
+        }
+        TypeBody::Structure(groups) => {
+            let found = check_groups(alloc, s, groups.as_slice())?;
+            let many = found.too_many;
+            let depth = structure_too_deep(sizes, graph, line, place, number, many);
+            Ok(structure_of(found, depth))
+        }
+    }
+}

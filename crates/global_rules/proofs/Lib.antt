@@ -1,0 +1,4 @@
+pub mod SharedLaws
+pub mod RegionLaws
+pub mod GlobalLaws
+pub mod SectionLaws

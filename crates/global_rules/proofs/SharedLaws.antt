@@ -1,0 +1,51 @@
+-- An item of globals from its parts.
+use Rattle.std.proofs.Common.{◌≡◌, ℕ, List, Bool, Option, refl, sym, ap, ◌∙◌, subst}
+use Rattle.plc_text.specs.declared.code.Code.{Code}
+use Rattle.st_types.specs.declared.st_type.StType.{StType}
+use Rattle.st_tree.specs.declared.declaration.Item.{Item}
+use Rattle.st_tree.specs.declared.declaration.Section.{Section}
+use Rattle.st_tree.specs.declared.unit.Decl.{Decl}
+use Rattle.st_tree.specs.declared.unit.Unit.{Unit}
+use Rattle.st_rules.specs.Classes.{classes_in}
+use Rattle.st_rules.specs.Faults.{least, earlier}
+use Rattle.st_rules.specs.Scope.{Scope}
+use Rattle.st_rules.proofs.FaultLaws.{least-append}
+use Rattle.declared_names.specs.Declarations.{declarations, item_line}
+use Rattle.declared_names.specs.UnitNames.{unit_names}
+use Rattle.declared_names.specs.WrittenTypes.{type_written, has_too_many_dimensions}
+use Rattle.st_unit_rules.specs.DeclarationRules.{unit, item_too_deep}
+use Rattle.st_unit_rules.specs.Limits.{too_deep}
+use Rattle.st_unit_rules.specs.VariableRules.{of_globals, item_faults}
+use Rattle.type_rules.specs.declared.types.CheckedType.{CheckedType}
+use Rattle.type_rules.specs.Types.{ChecksType}
+use Rattle.type_sizes.specs.declared.sizes.TypeSizes.{TypeSizes}
+use Rattle.type_sizes.specs.Sizes.{Measures}
+use Rattle.variable_rules.specs.declared.items.CheckedItem.{CheckedItem}
+use Rattle.variable_rules.specs.Items.{ChecksItem}
+use Rattle.global_rules.specs.declared.shared.SharedItem.{SharedItem}
+use Rattle.global_rules.specs.Shared.{ChecksShared}
+use Rattle.global_rules.specs.Private.Shared.{IsShared}
+
+module _ (c : SharedItem) (kind : CheckedType) (item : CheckedItem) (decls : List (Decl ℕ)) (written : Item ℕ) where
+  pub shared_checks : (s : Scope) (section : Section ℕ) → s ≡ unit decls → ChecksType kind s written.kind → ChecksItem item s of_globals section written → IsShared c kind item decls written → ChecksShared c decls section written
+  shared_checks s section e t f w =
+      let told : ChecksType kind (unit decls) written.kind = subst (λ (x : Scope). ChecksType kind x written.kind) e t in
+      let found : ChecksItem item (unit decls) of_globals section written = subst (λ (x : Scope). ChecksItem item x of_globals section written) e f in
+      record {
+        kind = w.kind-is ∙ told.kind;
+        least = w.least-is told.kind told.too_many ∙ ap (λ x. earlier x (least (item_too_deep decls (unit decls) written))) found.least
+            ∙ sym (least-append (item_faults (unit decls) of_globals section written) (item_too_deep decls (unit decls) written));
+      }
+
+  pub shared_parts : (sizes : TypeSizes) (graph : Unit) (line : ℕ) (deep : Option (Code × ℕ)) → c.kind ≡ kind.kind → c.least ≡ earlier item.least deep
+      → ((s : Scope) → s.classes ≡ classes_in decls → s.names ≡ unit_names decls → Measures sizes s) → graph.decls ≡ decls → line ≡ item_line written
+      → ((s : Scope) → Measures sizes s → kind.kind ≡ type_written s written.kind → kind.too_many ≡ has_too_many_dimensions s written.kind → deep ≡ least (too_deep s (declarations graph.decls) 64 line written.kind))
+      → IsShared c kind item decls written
+  shared_parts sizes graph line deep k l m g n d = record {
+    kind-is = k;
+    least-is = λ t b.
+        l
+        ∙ ap (earlier item.least) (d (unit decls) (m (unit decls) refl refl) t b
+        ∙ ap (λ (ds : List (Decl ℕ)). least (too_deep (unit decls) (declarations ds) 64 line written.kind)) g
+        ∙ ap (λ (x : ℕ). least (too_deep (unit decls) (declarations decls) 64 x written.kind)) n);
+  }

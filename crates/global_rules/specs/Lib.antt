@@ -1,0 +1,4 @@
+pub mod Shared
+pub mod Globals
+pub mod Sections
+pub mod Private

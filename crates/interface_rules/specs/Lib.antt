@@ -1,0 +1,3 @@
+pub mod Prototypes
+pub mod Interfaces
+pub mod Private

@@ -1,0 +1,11 @@
+pub mod FaultWords
+pub mod PlaceCodes
+pub mod CallCodes
+pub mod ExpressionCodes
+pub mod StatementCodes
+pub mod ClassCodes
+pub mod TypeCodes
+pub mod NameCodes
+pub mod VariableCodes
+pub mod DeclarationCodes
+pub mod RefusalCodes

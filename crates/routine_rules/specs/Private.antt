@@ -1,0 +1,5 @@
+-- The words of private contracts.
+pub mod Bodies
+pub mod Limits
+pub mod Variables
+pub mod Routines

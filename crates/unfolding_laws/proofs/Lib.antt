@@ -1,0 +1,11 @@
+pub mod ListLaws
+pub mod NumberLaws
+pub mod ViewLaws
+pub mod DeclaredLaws
+pub mod ChainLaws
+pub mod ShapedLaws
+pub mod StepLaws
+pub mod DepthLaws
+pub mod CycleLaws
+pub mod GoodLaws
+pub mod UnfoldingLaws

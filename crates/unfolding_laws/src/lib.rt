@@ -1,0 +1,6 @@
+//! The type of each region of a checked program of a good unit unfolds: what the rules of a unit accept can be laid out and run.
+#![tactic(auto)]
+
+mod laws;
+
+pub use laws::unfolding_laws;

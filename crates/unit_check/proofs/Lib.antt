@@ -1,0 +1,9 @@
+pub mod ThroughLaws
+pub mod GlobalLaws
+pub mod DeclLaws
+pub mod ConfigurationLaws
+pub mod DeclsLaws
+pub mod ProgramLaws
+pub mod RefusedLaws
+pub mod SideLaws
+pub mod ConfiguredLaws

@@ -1,0 +1,17 @@
+//! What a unit is checked by.
+
+use base_limits::InterfaceHeights;
+use class_rules::ClassSide;
+use program_instances::UnitPrograms;
+use st_scope::Scope;
+use unit_tables::UnitTables;
+
+/// What a unit is checked by: its tables, the scope of the unit, its programs, and what classes and interfaces need.
+#[derive(Clone, Copy)]
+pub struct CheckSide<'a, 'u> {
+    pub tables: &'a UnitTables<'u>,
+    pub scope: &'a Scope<'a>,
+    pub programs: &'a UnitPrograms<'u>,
+    pub classes: ClassSide<'a>,
+    pub heights: &'a InterfaceHeights,
+}

@@ -1,0 +1,6 @@
+pub mod AddLaws
+pub mod ScopeLaws
+pub mod StructureLaws
+pub mod ParameterLaws
+pub mod RoutineLaws
+pub mod UnitLaws
