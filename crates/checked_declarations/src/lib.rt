@@ -9,6 +9,7 @@ mod routines;
 mod so_far;
 mod trees;
 
+pub use class_rules::ClassSide;
 pub use classes::pass_class;
 pub use entries::pass_entry;
 pub use globals::{pass_configuration, pass_global};

@@ -25,7 +25,7 @@ use Rattle.st_unit_rules.specs.NameRules.{member_name_faults, word_twice}
 use Rattle.st_unit_rules.specs.VariableRules.{sections_faults}
 use Rattle.st_unit_rules.specs.Worth.{same_worth}
 use Rattle.initial_rules.proofs.Parts.{joined}
-use Rattle.function_rules.proofs.FunctionLaws.{none_behind}
+use Rattle.member_rules.proofs.MemberLaws.{none_behind}
 use Rattle.class_rules.specs.declared.parts.Broken.{Broken}
 use Rattle.class_rules.specs.declared.parts.CheckedClass.{CheckedClass}
 use Rattle.class_rules.specs.declared.parts.Heading.{Heading}

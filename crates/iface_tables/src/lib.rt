@@ -8,4 +8,5 @@ mod prototypes;
 mod tables;
 mod targets;
 
+pub use class_tables::ClassTables;
 pub use tables::IfaceTables;

@@ -19,7 +19,7 @@ use Rattle.declared_names.specs.Variables.{sections_in}
 use Rattle.st_unit_rules.specs.Checked.{Each, TypedMember}
 use Rattle.st_unit_rules.specs.DeclarationRules.{method_faults}
 use Rattle.st_unit_rules.specs.VariableRules.{Home, section_faults, sections_faults}
-use Rattle.function_rules.proofs.FunctionLaws.{none_behind}
+pub use Rattle.method_rules.proofs.MethodLaws.{none_behind}
 use Rattle.variable_rules.specs.declared.sections.CheckedSection.{CheckedSection}
 use Rattle.variable_rules.specs.Sections.{ChecksSection}
 use Rattle.unit_tables.specs.Scopes.{scope_in}

@@ -24,7 +24,7 @@ use Rattle.routine_rules.specs.declared.variables.CheckedVariables.{CheckedVaria
 use Rattle.routine_rules.specs.Routines.{ChecksRoutine}
 use Rattle.routine_rules.specs.Variables.{ChecksVariables}
 use Rattle.unit_tables.specs.Scopes.{scope_in}
-use Rattle.function_rules.proofs.FunctionLaws.{none_behind}
+pub use Rattle.function_rules.proofs.FunctionLaws.{none_behind}
 use Rattle.method_rules.specs.declared.methods.CheckedMethod.{CheckedMethod}
 use Rattle.method_rules.specs.declared.prototypes.CheckedPrototype.{CheckedPrototype}
 use Rattle.method_rules.specs.Methods.{ChecksMethod}

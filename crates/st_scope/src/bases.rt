@@ -4,7 +4,7 @@ ghost use Rattle.std.specs.Prelude.{◌≡◌, map, IfOk};
 ghost use Rattle.st_rules.specs.Classes.{classes_in};
 ghost use Rattle.st_scope.specs.Private.Bases.{base_number, bases_by, is_derived};
 
-use class_tables::ClassTables;
+use iface_tables::ClassTables;
 use plc_text::NoMemory;
 use st_tree::{Decl, Unit, Used};
 use std::alloc::Global;

@@ -12,8 +12,7 @@ ghost use Rattle.st_scope.specs.Private.Places.{IsTableOf};
 
 use crate::places::{Places, Which, is_external, place_of, variable_there, variables};
 use crate::tables::NameTables;
-use class_tables::ClassTables;
-use iface_tables::IfaceTables;
+use iface_tables::{ClassTables, IfaceTables};
 use plc_text::{NoMemory, Text};
 use st_rules::{
     Access, DeclaredField, DeclaredGlobal, DeclaredRoutine, DeclaredType, DeclaredVariable,

@@ -24,7 +24,7 @@ use crate::places::{Numbers, Places, fields, number_of, place_of, values};
 use crate::routines::{is_block, method_at, prototype_at};
 use crate::telling::{tell_entry, tell_in_class, tell_shared};
 use crate::unit_tables::{UnitTables, tables_of_unit};
-use class_tables::ClassTables;
+use iface_tables::ClassTables;
 use plc_text::{NoMemory, Text};
 use st_rules::{
     DeclaredField, DeclaredGlobal, DeclaredNames, DeclaredRoutine, DeclaredType, DeclaredVariable,

@@ -16,7 +16,7 @@ use crate::climb::tables_of;
 use crate::enumerators::{first_enumerations, last_enumerations};
 use crate::places::{Numbers, Places, Which, global_variables, globals, types};
 use crate::tables::{fields_of, values_of};
-use class_tables::ClassTables;
+use iface_tables::ClassTables;
 use plc_text::NoMemory;
 use st_rules::{DeclaredClass, DeclaredNames, TypeParts};
 use st_tree::Unit;

@@ -1,7 +1,7 @@
 //! What a unit is checked by.
 
 use base_limits::InterfaceHeights;
-use class_rules::ClassSide;
+use checked_declarations::ClassSide;
 use program_instances::UnitPrograms;
 use st_scope::Scope;
 use unit_tables::UnitTables;
