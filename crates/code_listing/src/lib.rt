@@ -1,8 +1,6 @@
 //! The listing of valid code.
 #![tactic(auto)]
 
-#[cfg(test)]
-mod tests;
 mod writing;
 
 pub use writing::listing;

@@ -6,8 +6,6 @@ mod at;
 mod image;
 mod laws;
 mod regions;
-#[cfg(test)]
-mod tests;
 mod words;
 
 pub use at::At;

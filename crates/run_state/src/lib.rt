@@ -4,8 +4,6 @@
 mod frames;
 mod places;
 mod state;
-#[cfg(test)]
-mod tests;
 mod writes;
 
 pub use frames::{local_spot, own_path, pop, push};

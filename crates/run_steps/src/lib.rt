@@ -5,8 +5,6 @@ mod arithmetic;
 mod labels;
 mod operations;
 mod places;
-#[cfg(test)]
-mod tests;
 mod values;
 
 pub use labels::hold;

@@ -7,8 +7,6 @@ mod kinds;
 mod numbers;
 mod rules;
 mod tables;
-#[cfg(test)]
-mod tests;
 mod valid_code;
 mod validity;
 

@@ -4,8 +4,6 @@
 mod copies;
 mod exchange;
 mod reading;
-#[cfg(test)]
-mod tests;
 mod value;
 
 pub use copies::{copy_path, copy_value};

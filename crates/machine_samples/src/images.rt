@@ -1,6 +1,6 @@
 //! Images and tables of them by example.
 
-use crate::{Image, Regions};
+use mem_image::{Image, Regions};
 use st_types::{Elem, fits};
 use std::test::Fail;
 
@@ -61,10 +61,10 @@ fn values_are_kept_low_byte_first(rt: HostRuntime) -> Result<(), Fail> {
         assert!(rt; image.len() == 16 && size <= 8);
         image.write(*kind, 0, *v);
         image.write(*kind, 16 - size, *v);
-        assert_eq!(rt; image.read(*kind, 0), *v);
-        assert_eq!(rt; image.read(*kind, 16 - size), *v);
-        assert_eq!(rt; image.part(0, size), *bytes);
-        assert_eq!(rt; image.part(16 - size, size), *bytes);
+        assert!(rt; image.read(*kind, 0) == *v);
+        assert!(rt; image.read(*kind, 16 - size) == *v);
+        assert!(rt; image.part(0, size) == *bytes);
+        assert!(rt; image.part(16 - size, size) == *bytes);
     }
     Ok(())
 }
@@ -75,12 +75,12 @@ fn copies_may_overlap(rt: HostRuntime) -> Result<(), Fail> {
     assert!(rt; image.len() == 8 && !image.is_empty());
     image.fill_from(0, &[1, 2, 3, 4, 5, 6, 7, 8]);
     image.copy_within_image(2, 0, 5);
-    assert_eq!(rt; image.part(0, 8), [1, 2, 1, 2, 3, 4, 5, 8].as_slice());
+    assert!(rt; image.part(0, 8) == [1, 2, 1, 2, 3, 4, 5, 8].as_slice());
     image.copy_within_image(0, 3, 5);
-    assert_eq!(rt; image.part(0, 8), [2, 3, 4, 5, 8, 4, 5, 8].as_slice());
+    assert!(rt; image.part(0, 8) == [2, 3, 4, 5, 8, 4, 5, 8].as_slice());
     image.part_mut(6, 2)[1] = 9;
     assert!(rt; image.len() == 8);
-    assert_eq!(rt; image.part(0, 8), [2, 3, 4, 5, 8, 4, 5, 9].as_slice());
+    assert!(rt; image.part(0, 8) == [2, 3, 4, 5, 8, 4, 5, 9].as_slice());
     Ok(())
 }
 
@@ -95,13 +95,13 @@ fn regions_hold_images(rt: HostRuntime) -> Result<(), Fail> {
     assert!(rt; table.at(0).is_none());
     let copy = table.at_mut(1).ok_or("no image")?;
     assert!(rt; copy.len() == 4);
-    assert_eq!(rt; copy.part(0, 4), [0, 0xfe, 0xff, 0].as_slice());
+    assert!(rt; copy.part(0, 4) == [0, 0xfe, 0xff, 0].as_slice());
     let mut other = Image::new(rt.alloc(), 3)?;
     other.copy_from(1, copy, 1, 2);
-    assert_eq!(rt; other.part(0, 3), [0, 0xfe, 0xff].as_slice());
+    assert!(rt; other.part(0, 3) == [0, 0xfe, 0xff].as_slice());
     let taken = table.take(1).ok_or("no image")?;
     assert!(rt; taken.len() == 4);
-    assert_eq!(rt; taken.read(Elem::Int, 1), -2);
+    assert!(rt; taken.read(Elem::Int, 1) == -2);
     assert!(rt; table.at(1).is_none());
     Ok(())
 }

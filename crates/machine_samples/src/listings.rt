@@ -1,6 +1,6 @@
 //! A listing with every instruction, written out by hand.
 
-use crate::listing;
+use code_listing::listing;
 use plc_text::{Items, NoMemory, Text};
 use st_types::Elem;
 use stack_code::{MachineCode, Op, RoutineCode};
@@ -175,7 +175,7 @@ fn shows_every_instruction(rt: HostRuntime) -> Result<(), Fail> {
     assert!(rt; valid.is_some());
     if let Some(code) = valid {
         let text = listing(rt.alloc(), &code)?;
-        assert_eq!(rt; text.as_str(), WANT);
+        assert!(rt; text.as_str() == WANT);
     }
     Ok(())
 }

@@ -1,6 +1,6 @@
 //! The rules of validity by example: code that breaks one of them, and its mended twin.
 
-use crate::{ValidCode, validate};
+use crate::holds::holds;
 use plc_text::{Items, NoMemory, Text, number, split_field};
 use st_types::Elem;
 use stack_code::{
@@ -8,6 +8,7 @@ use stack_code::{
 };
 use std::alloc::Global;
 use std::test::Fail;
+use valid_code::{ValidCode, validate};
 
 /// Kinds as a word: N for a number, A for an address.
 fn list(alloc: Global, word: &str) -> Result<Items<Kind>, NoMemory> {
@@ -272,8 +273,8 @@ fn tells_rule_by_rule(rt: HostRuntime) -> Result<(), Fail> {
     for line in CASES.split('\n') {
         let (what, codes) = halves(line);
         let (broken, mended) = halves(codes);
-        assert!(rt; !is_valid(rt.alloc(), broken)?, "{what}");
-        assert!(rt; is_valid(rt.alloc(), mended)?, "{what}");
+        holds(&rt, !is_valid(rt.alloc(), broken)?, what);
+        holds(&rt, is_valid(rt.alloc(), mended)?, what);
     }
     Ok(())
 }
@@ -330,12 +331,12 @@ fn is_valid_with(alloc: Global, table: u32, routine: u32) -> Result<bool, NoMemo
 fn tells_by_the_tables(rt: HostRuntime) -> Result<(), Fail> {
     for (lists, lines, want) in [(1, 2, false), (2, 1, false), (2, 2, true)] {
         let is_valid = is_valid_as_far(rt.alloc(), lists, lines)?;
-        assert_eq!(rt; is_valid, want, "{lists} lists and {lines} lines");
+        assert!(rt; is_valid == want);
     }
     for (routine, want) in [(3, true), (4, false)] {
         for table in 0..4 {
             let is_valid = is_valid_with(rt.alloc(), table, routine)?;
-            assert_eq!(rt; is_valid, want, "routine {routine} in table {table}");
+            assert!(rt; is_valid == want);
         }
     }
     Ok(())
@@ -382,7 +383,7 @@ fn looks_up(rt: HostRuntime) -> Result<(), Fail> {
         ("slot", 9, 0, None),
     ] {
         let found = says(rt.alloc(), ask, class, other)?;
-        assert_eq!(rt; found, want, "{ask} of {class} and {other}");
+        holds(&rt, found == want, ask);
     }
     Ok(())
 }

@@ -1,8 +1,8 @@
 //! What is put is taken back, and open calls keep to themselves.
 
-use crate::{Frame, RunState, Slot, Spot, load, local_spot, pop, push, put, roll_back, spend};
 use plc_series::Series;
 use plc_text::{NoMemory, Text};
+use run_state::{Frame, RunState, Slot, Spot, load, local_spot, pop, push, put, roll_back, spend};
 use st_tree::{Path, Steps};
 use std::alloc::Global;
 use std::test::Fail;
@@ -60,10 +60,10 @@ fn writes_are_taken_back(rt: HostRuntime) -> Result<(), Fail> {
     let spot = level(rt.alloc());
     for n in [6, 7, 8] {
         assert!(rt; is_put(rt.alloc(), &mut m, &spot, n));
-        assert_eq!(rt; number_at(rt.alloc(), &m, &spot), n);
+        assert!(rt; number_at(rt.alloc(), &m, &spot) == n);
     }
     roll_back(&mut m);
-    assert_eq!(rt; number_at(rt.alloc(), &m, &spot), 5);
+    assert!(rt; number_at(rt.alloc(), &m, &spot) == 5);
     assert!(rt; m.undo.is_empty());
     Ok(())
 }
@@ -78,13 +78,13 @@ fn each_call_has_its_locals(rt: HostRuntime) -> Result<(), Fail> {
     let Ok(spot) = local_spot(rt.alloc(), &m, 0, 1) else {
         return Err(Fail::from("no spot"));
     };
-    assert_eq!(rt; number_at(rt.alloc(), &m, &spot), 2);
+    assert!(rt; number_at(rt.alloc(), &m, &spot) == 2);
     assert!(rt; is_put(rt.alloc(), &mut m, &spot, 9));
     assert!(rt; pop(&mut m, 1).is_ok());
     let Ok(spot) = local_spot(rt.alloc(), &m, 0, 1) else {
         return Err(Fail::from("no spot"));
     };
-    assert_eq!(rt; number_at(rt.alloc(), &m, &spot), 1);
+    assert!(rt; number_at(rt.alloc(), &m, &spot) == 1);
     Ok(())
 }
 

@@ -1,11 +1,11 @@
 //! What stands in a value, what is put there, and copies.
 
-use crate::{Member, Value, copy_value, exchange_at, value_at};
 use plc_series::Series;
 use plc_text::{NoMemory, Text};
 use st_tree::Step;
 use std::alloc::Global;
 use std::test::Fail;
+use value_trees::{Member, Value, copy_value, exchange_at, value_at};
 
 /// `[low..]` of these numbers.
 fn array(alloc: Global, low: i128, numbers: &[i128]) -> Result<Value, NoMemory> {
@@ -46,10 +46,10 @@ fn puts(v: &mut Value, steps: &[Step], n: i128, old: i128) -> bool {
 fn elements_stand_at_their_indices(rt: HostRuntime) -> Result<(), Fail> {
     let v = tank(rt.alloc())?;
     for (index, n) in [(-2, -1), (-1, 10), (0, 20), (1, 30), (2, -1)] {
-        assert_eq!(rt; number_at(&v, &[Step::Field(0), Step::Element(index)]), n);
+        assert!(rt; number_at(&v, &[Step::Field(0), Step::Element(index)]) == n);
     }
-    assert_eq!(rt; number_at(&v, &[Step::Field(1)]), -1);
-    assert_eq!(rt; number_at(&v, &[Step::Element(0)]), -1);
+    assert!(rt; number_at(&v, &[Step::Field(1)]) == -1);
+    assert!(rt; number_at(&v, &[Step::Element(0)]) == -1);
     Ok(())
 }
 
@@ -59,9 +59,9 @@ fn what_is_put_comes_back(rt: HostRuntime) -> Result<(), Fail> {
     let first = copy_value(rt.alloc(), &v)?;
     let middle = [Step::Field(0), Step::Element(0)];
     assert!(rt; puts(&mut v, &middle, 7, 20));
-    assert_eq!(rt; number_at(&v, &middle), 7);
-    assert_eq!(rt; number_at(&v, &[Step::Field(0), Step::Element(1)]), 30);
-    assert_eq!(rt; number_at(&first, &middle), 20);
+    assert!(rt; number_at(&v, &middle) == 7);
+    assert!(rt; number_at(&v, &[Step::Field(0), Step::Element(1)]) == 30);
+    assert!(rt; number_at(&first, &middle) == 20);
     assert!(rt; !puts(&mut v, &[Step::Field(0), Step::Element(2)], 7, 20));
     assert!(rt; puts(&mut v, &middle, 20, 7));
     Ok(())

@@ -1,9 +1,9 @@
 //! Operators at the ends of their kinds, indices.
 
-use crate::{index_in, is_decided, operate};
 use plc_series::Series;
 use plc_text::NoMemory;
 use run_state::RunState;
+use run_steps::{index_in, is_decided, operate};
 use st_tree::Operator;
 use st_types::{Boxed, Elem, StType};
 use std::alloc::Global;
@@ -54,7 +54,7 @@ const CASES: [(Operator, Elem, i128, i128, i128); 18] = [
 fn operators_wrap_and_fault(rt: HostRuntime) -> Result<(), Fail> {
     let m = idle(rt.alloc());
     for (operator, e, a, b, n) in &CASES {
-        assert_eq!(rt; given(&m, *operator, *e, *a, *b), *n);
+        assert!(rt; given(&m, *operator, *e, *a, *b) == *n);
     }
     Ok(())
 }
@@ -77,7 +77,7 @@ fn array_from(alloc: Global, low: i128, high: i128) -> Result<StType, NoMemory> 
 fn indices_have_two_ends(rt: HostRuntime) -> Result<(), Fail> {
     let kind = array_from(rt.alloc(), -1, 2)?;
     for (index, there) in [(-2, false), (-1, true), (2, true), (3, false)] {
-        assert_eq!(rt; index_in(&kind, &index).is_some(), there);
+        assert!(rt; index_in(&kind, &index).is_some() == there);
     }
     Ok(())
 }
