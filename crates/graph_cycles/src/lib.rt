@@ -7,8 +7,6 @@ mod graph;
 mod hint;
 mod places;
 mod search;
-#[cfg(test)]
-mod tests;
 
 pub use cycle::{cycle_nodes, nodes_to, nodes_to_cycles};
 pub use graph::Edge;

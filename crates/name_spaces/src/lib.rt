@@ -3,8 +3,6 @@
 
 mod held;
 mod names_in;
-#[cfg(test)]
-mod tests;
 mod twice;
 mod words;
 

@@ -4,7 +4,5 @@
 mod span;
 mod table;
 mod taken;
-#[cfg(test)]
-mod tests;
 
 pub use taken::TakenBits;

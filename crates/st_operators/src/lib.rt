@@ -5,8 +5,6 @@
 mod kinds;
 mod literals;
 mod operators;
-#[cfg(test)]
-mod tests;
 mod types;
 
 pub use kinds::{

@@ -11,8 +11,6 @@ mod modifiers;
 mod names;
 mod rows;
 mod signature;
-#[cfg(test)]
-mod tests;
 mod widening;
 
 pub use asked::Asked;

@@ -4,8 +4,6 @@
 mod arranged;
 mod groups;
 mod order;
-#[cfg(test)]
-mod tests;
 
 pub use arranged::arrange_groups;
 pub use groups::Group;

@@ -3,8 +3,6 @@
 
 mod jobs;
 mod laws;
-#[cfg(test)]
-mod tests;
 
 pub use jobs::{Job, list_jobs};
 pub use laws::job_laws;

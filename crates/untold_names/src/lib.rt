@@ -5,8 +5,6 @@ mod classes;
 mod globals;
 mod laws;
 mod routines;
-#[cfg(test)]
-mod tests;
 mod types;
 mod variables;
 

@@ -1,13 +1,13 @@
 //! Names by example.
 
-use crate::{
-    untold_globals, untold_interfaces, untold_members, untold_methods, untold_parts,
-    untold_prototypes, untold_routine, untold_types,
-};
 use plc_text::Text;
 use st_rules::{Access, ResultType};
 use st_tree::{Modifier, Name};
 use std::test::Fail;
+use untold_names::{
+    untold_globals, untold_interfaces, untold_members, untold_methods, untold_parts,
+    untold_prototypes, untold_routine, untold_types,
+};
 
 #[test]
 fn a_method_with_words_and_nothing_else(rt: HostRuntime) -> Result<(), Fail> {
@@ -16,7 +16,7 @@ fn a_method_with_words_and_nothing_else(rt: HostRuntime) -> Result<(), Fail> {
     let name = Name { text, line: 3 };
     let words = [Modifier::Private, Modifier::Abstract];
     let routine = untold_routine(alloc, &name, &words, &None, &[])?;
-    assert_eq!(rt; routine.name.as_str(), "RUN");
+    assert!(rt; routine.name.as_str() == "RUN");
     assert!(rt; matches!(routine.access, Access::Private));
     assert!(rt; routine.abstract_method);
     assert!(rt; matches!(routine.outcome, ResultType::Nothing));

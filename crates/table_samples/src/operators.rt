@@ -1,11 +1,11 @@
 //! Each operator with each pair of kinds, and literals at the ends of kinds.
 
-use crate::{
+use plc_text::{Boxed, Code, Text};
+use st_operators::{
     duration_fault, element_type, holds_instances, index_fault, int_fault, int_type, literal_fault,
     literal_type, negated_type, negative_fault, negative_type, noted_type, null_type, number_asked,
     operands_fault, operation_type, suits_operator,
 };
-use plc_text::{Boxed, Code, Text};
 use st_rules::Asked;
 use st_tree::{Literal, Operator};
 use st_types::{Elem, StType};
@@ -77,12 +77,12 @@ fn operators_with_pairs_of_kinds(rt: HostRuntime) -> Result<(), Fail> {
                 let t = Some(StType::Elementary(*a));
                 let u = Some(StType::Elementary(*b));
                 let broken = operands_fault(3, *operator, &t, &u);
-                assert_eq!(rt; broken.is_none(), taken);
+                assert!(rt; broken.is_none() == taken);
                 let told = operation_type(*operator, &t, &u);
                 if *gives_bool {
                     assert!(rt; matches!(told, Some(StType::Elementary(Elem::Bool))));
                 } else {
-                    assert_eq!(rt; told.is_some(), taken);
+                    assert!(rt; told.is_some() == taken);
                 }
             }
         }
@@ -138,22 +138,16 @@ fn ints_where_they_are_asked(rt: HostRuntime) -> Result<(), Fail> {
                 _ => false
             }
         );
-        assert_eq!(rt; int_fault(7, digits, &told).is_none(), *fits);
+        assert!(rt; int_fault(7, digits, &told).is_none() == *fits);
         let negative = negative_type(&asked);
-        assert_eq!(rt;
-            negative_fault(7, digits, &negative).is_none(),
-            *fits_behind_a_sign
-        );
+        assert!(rt; negative_fault(7, digits, &negative).is_none() == *fits_behind_a_sign);
     }
     let truth = Asked::Wanted(StType::Elementary(Elem::Bool));
     assert!(rt; matches!(int_type(&truth, "1"), Some(StType::Elementary(Elem::Bool))));
     assert!(rt; matches!(negative_type(&truth), Some(StType::Elementary(Elem::Dint))));
     assert!(rt; matches!(&number_asked(&truth), Asked::Anything));
     assert!(rt; int_type(&Asked::Untold, "1").is_none());
-    assert_eq!(rt;
-        int_fault(7, "18446744073709551616", &None),
-        Some((Code::E13, 7))
-    );
+    assert!(rt; int_fault(7, "18446744073709551616", &None) == Some((Code::E13, 7)));
     Ok(())
 }
 
@@ -162,17 +156,14 @@ fn other_literals_and_types(rt: HostRuntime) -> Result<(), Fail> {
     let alloc = rt.alloc();
     let two = Literal::Int(Text::copy(alloc, "2")?);
     let below = Literal::Negative(Text::copy(alloc, "1")?);
-    assert_eq!(rt; literal_fault(4, Elem::Bool, &two), Some((Code::E13, 4)));
-    assert_eq!(rt; literal_fault(4, Elem::Word, &below), Some((Code::E13, 4)));
-    assert_eq!(rt;
-        literal_fault(4, Elem::Int, &Literal::True),
-        Some((Code::E07, 4))
-    );
+    assert!(rt; literal_fault(4, Elem::Bool, &two) == Some((Code::E13, 4)));
+    assert!(rt; literal_fault(4, Elem::Word, &below) == Some((Code::E13, 4)));
+    assert!(rt; literal_fault(4, Elem::Int, &Literal::True) == Some((Code::E07, 4)));
     assert!(rt; literal_type(Elem::Int, &Literal::True).is_none());
     assert!(rt; literal_fault(4, Elem::Bool, &Literal::False).is_none());
     assert!(rt; literal_type(Elem::Int, &below).is_some());
     assert!(rt; duration_fault(5, "T#4294967295MS").is_none());
-    assert_eq!(rt; duration_fault(5, "T#4294967296MS"), Some((Code::E13, 5)));
+    assert!(rt; duration_fault(5, "T#4294967296MS") == Some((Code::E13, 5)));
     let array = StType::Array(0, 1, Boxed::new(alloc, StType::Instance(3))?);
     assert!(rt; holds_instances(&array) && !holds_instances(&StType::Reference(3)));
     assert!(rt; element_type(&array).is_some() && element_type(&StType::Instance(3)).is_none());
@@ -198,9 +189,6 @@ fn other_literals_and_types(rt: HostRuntime) -> Result<(), Fail> {
     );
     assert!(rt; negated_type(&Some(StType::Elementary(Elem::Uint))).is_none());
     assert!(rt; noted_type(&Some(StType::Elementary(Elem::Word))).is_some());
-    assert_eq!(rt;
-        index_fault(6, &Some(StType::Elementary(Elem::Bool))),
-        Some((Code::E07, 6))
-    );
+    assert!(rt; index_fault(6, &Some(StType::Elementary(Elem::Bool))) == Some((Code::E07, 6)));
     Ok(())
 }

@@ -1,10 +1,11 @@
 //! Signatures are compared as a whole; the first word of access counts.
 
-use crate::{
+use crate::holds::holds;
+use plc_text::{Code, Items, NoMemory, Text};
+use st_rules::{
     Access, Parameter, ResultType, Signature, differs_from_hook, earlier, is_hook, method_access,
     same_signature, written_access,
 };
-use plc_text::{Code, Items, NoMemory, Text};
 use st_tree::{Modifier, SectionSort};
 use st_types::{Elem, StType};
 use std::alloc::Global;
@@ -90,7 +91,7 @@ fn signatures(rt: HostRuntime) -> Result<(), NoMemory> {
     ];
     for (sort, name, kind, initial, same) in cases {
         let other = with_one(alloc, parameter(alloc, sort, name, kind, initial)?)?;
-        assert_eq!(rt; same_signature(&first, &other), same, "{name} {same}");
+        holds(&rt, same_signature(&first, &other) == same, name);
     }
     let none = Signature {
         result: ResultType::Written(Some(StType::Elementary(Elem::Bool))),
@@ -122,7 +123,7 @@ fn hooks(rt: HostRuntime) -> Result<(), NoMemory> {
             initial,
         )?;
         let signature = with_one(alloc, copies)?;
-        assert_eq!(rt; differs_from_hook(&exit, &signature, &0), differs);
+        assert!(rt; differs_from_hook(&exit, &signature, &0) == differs);
         assert!(rt; !differs_from_hook(&other, &signature, &0));
     }
     for name in ["FB_INIT", "FB_REINIT"] {
@@ -146,12 +147,12 @@ fn hooks(rt: HostRuntime) -> Result<(), NoMemory> {
 #[test]
 fn words_and_faults(rt: HostRuntime) {
     let words = [Modifier::Final, Modifier::Internal, Modifier::Private];
-    assert_eq!(rt; written_access(&words), Some(Access::Public));
-    assert_eq!(rt; written_access(&[Modifier::Final]), None);
-    assert_eq!(rt; method_access(&[Modifier::Abstract]), Access::Public);
-    assert_eq!(rt; method_access(&[Modifier::Protected]), Access::Protected);
+    assert!(rt; written_access(&words) == Some(Access::Public));
+    assert!(rt; written_access(&[Modifier::Final]) == None);
+    assert!(rt; method_access(&[Modifier::Abstract]) == Access::Public);
+    assert!(rt; method_access(&[Modifier::Protected]) == Access::Protected);
     let (e11, e12) = (Some((Code::E11, 9)), Some((Code::E12, 1)));
-    assert_eq!(rt; earlier(e12, e11), e11);
-    assert_eq!(rt; earlier(Some((Code::E12, 2)), e12), e12);
-    assert_eq!(rt; earlier(None, e12), e12);
+    assert!(rt; earlier(e12, e11) == e11);
+    assert!(rt; earlier(Some((Code::E12, 2)), e12) == e12);
+    assert!(rt; earlier(None, e12) == e12);
 }

@@ -1,7 +1,7 @@
 //! What can be told, by example.
 
-use crate::list_jobs;
 use std::test::Fail;
+use telling_list::list_jobs;
 
 #[test]
 fn nothing_of_a_unit_without_declarations(rt: HostRuntime) -> Result<(), Fail> {

@@ -1,7 +1,7 @@
 //! What is told together, by example.
 
-use crate::arrange_groups;
 use std::test::Fail;
+use telling_groups::arrange_groups;
 
 #[test]
 fn nothing_of_a_unit_without_declarations(rt: HostRuntime) -> Result<(), Fail> {

@@ -1,7 +1,7 @@
 //! Bits by example.
 
-use crate::TakenBits;
 use plc_text::{NoMemory, Text};
+use shared_bits::TakenBits;
 use std::alloc::Global;
 use std::test::Fail;
 
@@ -34,7 +34,7 @@ fn pairs() -> [(&'static str, &'static str, bool); 10] {
 #[test]
 fn addresses_that_share_a_bit(rt: HostRuntime) -> Result<(), Fail> {
     for (first, second, shared) in pairs() {
-        assert_eq!(rt; share(rt.alloc(), first, second)?, shared);
+        assert!(rt; share(rt.alloc(), first, second)? == shared);
     }
     Ok(())
 }

@@ -1,6 +1,6 @@
 //! Names by example.
 
-use crate::{HeldNames, named_fault, twice_fault, word_twice};
+use name_spaces::{HeldNames, named_fault, twice_fault, word_twice};
 use plc_text::{Code, NoMemory, Text};
 use st_tree::{Modifier, Name};
 use std::alloc::Global;
