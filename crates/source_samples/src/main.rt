@@ -1,6 +1,7 @@
 //! Sources with what the rules say of each. Lines of the input that begin with `| ` are lines of a source; `times COUNT TEXT` stands for so
-//! many lines of a text, in which `#` is the number of each, from 1, and `@` the number before. `judge NAME` is printed with the answer to the source before it behind
-//! it: `accepted`, or `refused CODE DECLARATION LINE`. Empty lines and those that begin with `#` are printed as they are.
+//! many lines of a text, in which `#` is the number of each, from 1, and `@` the number before. `judge NAME` is printed with the answer to
+//! the source before it behind it: `accepted`, or `refused CODE DECLARATION LINE`. Empty lines and those that begin with `#` are printed as
+//! they are.
 #![tactic(auto)]
 
 use plc_text::{Denied, number, split_field};
