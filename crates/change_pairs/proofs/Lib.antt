@@ -1,0 +1,4 @@
+pub mod PairLaws
+pub mod PlaceLaws
+pub mod RegionLaws
+pub mod VariableLaws

@@ -1,0 +1,5 @@
+pub mod Pairs
+pub mod Places
+pub mod Private
+pub mod Regions
+pub mod Variables
