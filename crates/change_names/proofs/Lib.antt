@@ -1,0 +1,4 @@
+pub mod ClassLaws
+pub mod ListLaws
+pub mod RegionLaws
+pub mod StructureLaws

@@ -1,0 +1,18 @@
+use Rattle.std.proofs.Common.{ap, ◌∙◌}
+use Rattle.std.specs.Prelude.{option_map}
+use Rattle.st_initial.specs.Variables.{variables_of}
+use Rattle.st_values.specs.Program.{class_at}
+use Rattle.st_values.specs.View.{program_of}
+use Rattle.change_pairs.specs.Pairs.{pairs_of}
+use Rattle.change_names.specs.Private.Classes.{listed_at}
+use Rattle.change_names.proofs.ClassLaws.{own_with, own_none}
+use Rattle.change_names.proofs.classes.own_pairs.Goals as goal
+
+pub returns-in_ok-pairs-in-Some : goal.returns-in_ok-pairs-in-Some
+returns-in_ok-pairs-in-Some c =
+    c.in_ok-pairs-in-Some.ensures
+    ∙ own_with (program_of c.args.old.now.program.now) (class_at (program_of c.args.new.now.program.now) c.args.class) (variables_of c.as_slice.result.now) (listed_at (option_map (λ vs. vs.now) c.old_own_of-before.result))
+    (ap variables_of c.as_slice.ensures ∙ c.in-Some.ensures ∙ c.requires.new_own c.args.class) c.old_own_of-before.ensures
+
+pub returns-in-None : goal.returns-in-None
+returns-in-None c = ap pairs_of c.new.ensures.items ∙ own_none (program_of c.args.old.now.program.now) (class_at (program_of c.args.new.now.program.now) c.args.class) (c.in-None.ensures ∙ c.requires.new_own c.args.class)

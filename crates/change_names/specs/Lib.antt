@@ -1,0 +1,5 @@
+pub mod Names
+pub mod Pairs
+pub mod Private
+pub mod Regions
+pub mod Side

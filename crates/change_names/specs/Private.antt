@@ -1,0 +1,3 @@
+-- The words of private contracts.
+pub mod Classes
+pub mod Places

@@ -1,0 +1,13 @@
+//! A program with its tables.
+
+use program_tables::ProgramTables;
+use st_initial::Members;
+use st_tree::Program;
+
+/// A program with the tables of it that a change looks into.
+#[derive(Clone, Copy)]
+pub struct Side<'p> {
+    pub program: &'p Program,
+    pub tables: &'p ProgramTables,
+    pub members: &'p Members<'p>,
+}
