@@ -1,0 +1,104 @@
+//! The first load of a program, and the tables with which it is run.
+
+ghost use Rattle.std.specs.Prelude.{◌≡◌, IfOk};
+ghost use Rattle.st_change.specs.OneThread as words;
+ghost use Rattle.st_values.specs.View.{program_of};
+ghost use Rattle.region_instances.specs.Instances.{RegionsUnfold};
+ghost use Rattle.reference_journal.specs.Loading.{Loads};
+ghost use Rattle.reference_journal.specs.Private.Footprints.{AreFootprints};
+ghost use Rattle.reference_journal.specs.Private.Tables.{AreTables};
+
+use footprints::Footprints;
+use plc_text::{Code, NoMemory, Refusal};
+use program_tables::ProgramTables;
+use reference_start::{Started, Stopped, start};
+use reference_tasks::Loaded;
+use routine_tables::{RoutineTables, routine_tables};
+use st_initial::{Members, members_of};
+use st_tree::Program;
+use std::alloc::Global;
+
+/// A number of 32 bits.
+pub fn narrowed(number: usize) -> Result<u32, NoMemory>
+    ensures { IfOk result (λ n. n ≡ number) }
+{
+    match u32::try_from(number) {
+        Ok(n) => Ok(n),
+        Err(_) => Err(NoMemory),
+    }
+}
+
+/// For each task of a program the regions that its cycles touch.
+pub fn footprints_of(alloc: Global, program: &Program) -> Result<Vec<Vec<u32>>, NoMemory>
+    ensures { IfOk result (λ all. RegionsUnfold (program_of program.now) → AreFootprints (program_of program.now) all.items) }
+{
+    let tables = Footprints::build(alloc, program)?;
+    let mut all = Vec::new(alloc);
+    for t in 0..program.tasks.len() {
+        let task = narrowed(t)?;
+        let regions = tables.footprint(alloc, task)?;
+        all.push(regions)?;
+    }
+    Ok(all)
+}
+
+/// The refusal by a hook that stopped at a fault.
+pub fn refusal_of(stopped: Stopped) -> Refusal
+    ensures { result ≡ words.hook_refusal stopped.class stopped.fault.kind stopped.fault.line }
+{
+    Refusal {
+        code: Code::E17,
+        declaration: stopped.class,
+        line: stopped.fault.line,
+        kind: Some(stopped.fault.kind),
+    }
+}
+
+/// Ends the use of a program's tables.
+pub fn let_go(on: Loaded<'_>) {
+    let Loaded {
+        alloc: _alloc,
+        program: _program,
+        tables: _tables,
+        members: _members,
+        routines: _routines,
+    } = on;
+}
+
+/// The first load of a program with its tables.
+fn load_by(
+    alloc: Global,
+    program: &Program,
+    tables: &ProgramTables,
+    members: &Members<'_>,
+    routines: &RoutineTables<'_>,
+) -> Result<Option<Refusal>, NoMemory>
+    requires { AreTables program.now tables.now members.now routines.now }
+    ensures { IfOk result (λ refusal. RegionsUnfold (program_of tables.now) → Loads (program_of tables.now) refusal) }
+{
+    let on = Loaded {
+        alloc,
+        program,
+        tables,
+        members,
+        routines,
+    };
+    let came = start(&on);
+    let_go(on);
+    match came? {
+        Started::Ran { .. } => Ok(None),
+        Started::Stopped(stopped) => Ok(Some(refusal_of(stopped))),
+    }
+}
+
+/// Loads a program for the first time: there is a refusal exactly where a hook stops at a fault. The types of the regions are to unfold, as
+/// those of each accepted program do. Nothing bounds the machine's stack in the hooks.
+pub fn load_first(alloc: Global, program: &Program) -> Result<Option<Refusal>, NoMemory>
+    ensures { IfOk result (λ refusal. RegionsUnfold (program_of program.now) → Loads (program_of program.now) refusal) }
+{
+    let tables = ProgramTables::build(alloc, program)?;
+    let members = members_of(alloc, program)?;
+    let routines = routine_tables(alloc, &tables, program)?;
+    let refusal = load_by(alloc, program, &tables, &members, &routines)?;
+    Ok(refusal)
+}
