@@ -1,0 +1,3 @@
+pub mod LineLaws
+pub mod PlaceLaws
+pub mod ReportLaws
