@@ -1,0 +1,6 @@
+//! The rules of the language as what judges program texts.
+#![tactic(auto)]
+
+mod judge;
+
+pub use judge::Language;
