@@ -6,8 +6,6 @@ mod arithmetic;
 mod bits;
 mod conversion;
 mod laws;
-#[cfg(test)]
-mod tests;
 mod wrapping;
 
 pub use arithmetic::{add, div, mul, rem, sub};

@@ -10,8 +10,6 @@ mod lines;
 mod memory;
 mod numbers;
 mod refusal;
-#[cfg(test)]
-mod tests;
 mod text;
 mod words;
 

@@ -9,8 +9,6 @@ mod marks;
 mod piece;
 mod reach;
 mod source;
-#[cfg(test)]
-mod tests;
 mod token;
 
 pub use headings::declaration;

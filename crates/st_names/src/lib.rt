@@ -4,8 +4,6 @@
 
 mod add_error;
 mod names;
-#[cfg(test)]
-mod tests;
 
 pub use add_error::AddError;
 pub use names::Names;

@@ -16,8 +16,6 @@ mod program;
 mod seen;
 mod statement;
 mod terminal;
-#[cfg(test)]
-mod tests;
 mod token;
 mod type_spec;
 mod unit;

@@ -5,8 +5,6 @@
 mod elem;
 mod range;
 mod st_type;
-#[cfg(test)]
-mod tests;
 mod widening;
 
 pub use elem::Elem;

@@ -1,6 +1,6 @@
 //! Operations at the ends of each kind.
 
-use crate::{add, and, compare, convert, div, mul, not, or, rem, sub, wrap, xor};
+use plc_num::{add, and, compare, convert, div, mul, not, or, rem, sub, wrap, xor};
 use st_types::{Elem, fits};
 use std::cmp::Ordering;
 
@@ -84,13 +84,13 @@ fn arithmetic_wraps_at_the_ends_of_each_kind(rt: HostRuntime) {
     for (e, a, b, sum, difference, product, quotient, remainder) in &ARITHMETIC {
         let (e, a, b) = (*e, *a, *b);
         assert!(rt; fits(e, a) && fits(e, b) && fits(e, 0));
-        assert_eq!(rt; add(e, a, b), *sum);
-        assert_eq!(rt; sub(e, a, b), *difference);
-        assert_eq!(rt; mul(e, a, b), *product);
-        assert_eq!(rt; div(e, a, b), Some(*quotient));
-        assert_eq!(rt; rem(e, a, b), Some(*remainder));
-        assert_eq!(rt; div(e, a, 0), None);
-        assert_eq!(rt; rem(e, a, 0), None);
+        assert!(rt; add(e, a, b) == *sum);
+        assert!(rt; sub(e, a, b) == *difference);
+        assert!(rt; mul(e, a, b) == *product);
+        assert!(rt; div(e, a, b) == Some(*quotient));
+        assert!(rt; rem(e, a, b) == Some(*remainder));
+        assert!(rt; div(e, a, 0) == None);
+        assert!(rt; rem(e, a, 0) == None);
     }
 }
 
@@ -126,10 +126,10 @@ fn bits_are_those_of_the_width(rt: HostRuntime) {
     for (e, a, b, both, either, one, opposite) in &BITS {
         let (e, a, b) = (*e, *a, *b);
         assert!(rt; fits(e, a) && fits(e, b));
-        assert_eq!(rt; and(e, a, b), *both);
-        assert_eq!(rt; or(e, a, b), *either);
-        assert_eq!(rt; xor(e, a, b), *one);
-        assert_eq!(rt; not(e, a), *opposite);
+        assert!(rt; and(e, a, b) == *both);
+        assert!(rt; or(e, a, b) == *either);
+        assert!(rt; xor(e, a, b) == *one);
+        assert!(rt; not(e, a) == *opposite);
     }
 }
 
@@ -152,20 +152,14 @@ const CONVERSIONS: [(Elem, i128, i128, i128); 12] = [
 #[test]
 fn conversions_wrap_and_to_bool_mean_not_zero(rt: HostRuntime) {
     for (to, v, wrapped, converted) in &CONVERSIONS {
-        assert_eq!(rt; wrap(*to, *v), *wrapped);
-        assert_eq!(rt; convert(*to, *v), *converted);
+        assert!(rt; wrap(*to, *v) == *wrapped);
+        assert!(rt; convert(*to, *v) == *converted);
     }
 }
 
 #[test]
 fn numbers_are_compared_as_numbers(rt: HostRuntime) {
-    assert_eq!(rt; compare(-1, 0), Ordering::Less);
-    assert_eq!(rt;
-        compare(18446744073709551615, 18446744073709551615),
-        Ordering::Equal
-    );
-    assert_eq!(rt;
-        compare(18446744073709551615, -9223372036854775808),
-        Ordering::Greater
-    );
+    assert!(rt; compare(-1, 0) == Ordering::Less);
+    assert!(rt; compare(18446744073709551615, 18446744073709551615) == Ordering::Equal);
+    assert!(rt; compare(18446744073709551615, -9223372036854775808) == Ordering::Greater);
 }

@@ -1,10 +1,11 @@
 //! Copies are equal, deep trees are let go, and what numbers, durations and addresses stand for.
 
-use crate::{
+use crate::holds::holds;
+use plc_text::{NoMemory, Text};
+use st_tree::{
     Area, Expr, Literal, Marks, Name, Step, Steps, Width, area_of, bit_of, index_of, milliseconds,
     number_of, width_of,
 };
-use plc_text::{NoMemory, Text};
 use st_types::Boxed;
 use std::alloc::Global;
 
@@ -13,14 +14,14 @@ fn copies_are_equal(rt: HostRuntime) -> Result<(), NoMemory> {
     let alloc = rt.alloc();
     let text = Text::copy(alloc, "SPEED")?;
     let name = Name { text, line: 7 };
-    assert_eq!(rt; name.copy(alloc)?, name);
+    assert!(rt; name.copy(alloc)? == name);
     let renamed_from = Some(Text::copy(alloc, "VELOCITY")?);
     let marks = Marks {
         no_copy: false,
         init_on_change: true,
         renamed_from,
     };
-    assert_eq!(rt; marks.copy(alloc)?, marks);
+    assert!(rt; marks.copy(alloc)? == marks);
     assert!(rt; Marks::none() != marks);
     let literals = [
         Literal::Int(Text::copy(alloc, "16#FF")?),
@@ -29,7 +30,7 @@ fn copies_are_equal(rt: HostRuntime) -> Result<(), NoMemory> {
         Literal::False,
     ];
     for literal in &literals {
-        assert_eq!(rt; literal.copy(alloc)?, *literal);
+        assert!(rt; literal.copy(alloc)? == *literal);
     }
     Ok(())
 }
@@ -42,7 +43,7 @@ fn steps_may_be_more_than_the_inline_room(rt: HostRuntime) -> Result<(), NoMemor
     }
     steps.push(Step::Element(-3))?;
     let copy = steps.copy(rt.alloc())?;
-    assert_eq!(rt; copy.as_slice().len(), 21);
+    assert!(rt; copy.as_slice().len() == 21);
     assert!(rt; copy.as_slice() == steps.as_slice());
     Ok(())
 }
@@ -78,7 +79,7 @@ fn numbers_end_at_64_bits(rt: HostRuntime) {
         ("18446744073709551616", None),
         ("16#1_0000_0000_0000_0000", None),
     ] {
-        assert!(rt; number_of(text) == want, "{text}");
+        holds(&rt, number_of(text) == want, text);
     }
 }
 
@@ -93,7 +94,7 @@ fn durations_end_at_32_bits(rt: HostRuntime) {
         ("T#50d", None),
         ("T#18446744073709551616ms", None),
     ] {
-        assert!(rt; milliseconds(text) == want, "{text}");
+        holds(&rt, milliseconds(text) == want, text);
     }
 }
 
@@ -113,9 +114,9 @@ fn addresses_have_area_width_and_numbers(rt: HostRuntime) {
             Some(0),
         ),
     ] {
-        assert!(rt; area_of(text) == area, "{text}");
-        assert!(rt; width_of(text) == width, "{text}");
-        assert!(rt; index_of(text) == index, "{text}");
-        assert!(rt; bit_of(text) == bit, "{text}");
+        holds(&rt, area_of(text) == area, text);
+        holds(&rt, width_of(text) == width, text);
+        holds(&rt, index_of(text) == index, text);
+        holds(&rt, bit_of(text) == bit, text);
     }
 }

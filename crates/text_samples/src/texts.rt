@@ -4,7 +4,8 @@ ghost use Rattle.std.specs.Prelude.{◌≡◌, ◌↔◌, IsTrue, IfErr, OnOk, S
 ghost use Rattle.std.specs.HashMap.{get};
 ghost use Rattle.std.specs.Str.{bytes_eq};
 
-use crate::{
+use crate::holds::holds;
+use plc_text::{
     Code, Denied, Fault, FaultKind, Items, Lines, NoMemory, Refusal, Span, Text, is_blank,
     is_number, is_upper_word, is_word, line_of, number, opens, spells, split_field,
 };
@@ -55,21 +56,15 @@ fn copies_and_pushes(rt: HostRuntime) -> Result<(), Fail> {
     text.push_decimal(18446744073709551615)?;
     text.push_str(" ")?;
     text.push_hex(b"\x00\x9f\xa0\xff")?;
-    assert_eq!(rt; text.as_str(), "n=0 18446744073709551615 009fa0ff");
-    assert_eq!(rt; text.len(), 33);
+    assert!(rt; text.as_str() == "n=0 18446744073709551615 009fa0ff");
+    assert!(rt; text.len() == 33);
     assert!(rt; !text.is_empty());
 
     let text = Text::copy(rt.alloc(), "Größe \"1\"")?;
-    assert_eq!(rt; text.len(), 11);
-    assert_eq!(rt; text.as_bytes(), "Größe \"1\"".as_bytes());
-    assert_eq!(rt;
-        format!(in rt.alloc(); "<{text}>")?.as_str(),
-        "<Größe \"1\">"
-    );
-    assert_eq!(rt;
-        format!(in rt.alloc(); "{text:?}")?.as_str(),
-        "\"Größe \\\"1\\\"\""
-    );
+    assert!(rt; text.len() == 11);
+    assert!(rt; text.as_bytes() == "Größe \"1\"".as_bytes());
+    assert!(rt; format!(in rt.alloc(); "<{text}>")?.as_str() == "<Größe \"1\">");
+    assert!(rt; format!(in rt.alloc(); "{text:?}")?.as_str() == "\"Größe \\\"1\\\"\"");
     Ok(())
 }
 
@@ -81,7 +76,7 @@ fn folds_ascii_letters_alone(rt: HostRuntime) -> Result<(), Fail> {
         ("Motor_1.Run", "MOTOR_1.RUN"),
         ("@[`{ größe µ", "@[`{ GRößE µ"),
     ] {
-        assert_eq!(rt; Text::folded(rt.alloc(), text)?.as_str(), want);
+        assert!(rt; Text::folded(rt.alloc(), text)?.as_str() == want);
     }
     Ok(())
 }
@@ -99,9 +94,9 @@ fn compares_by_bytes(rt: HostRuntime) -> Result<(), Fail> {
     ] {
         let left = Text::copy(rt.alloc(), a)?;
         let right = Text::copy(rt.alloc(), b)?;
-        assert!(rt; left.cmp(&right) == want, "{a:?} and {b:?}");
-        assert_eq!(rt; are_same(&left, &right), want == Ordering::Equal);
-        assert_eq!(rt; left < right, want == Ordering::Less);
+        holds(&rt, left.cmp(&right) == want, a);
+        assert!(rt; are_same(&left, &right) == (want == Ordering::Equal));
+        assert!(rt; (left < right) == (want == Ordering::Less));
     }
     Ok(())
 }
@@ -112,10 +107,10 @@ fn is_a_key(rt: HostRuntime) -> Result<(), Fail> {
     note(&mut lines, rt.alloc(), "A", 3)?;
     note(&mut lines, rt.alloc(), "B", 5)?;
     note(&mut lines, rt.alloc(), "A", 8)?;
-    assert_eq!(rt; lines.len(), 2);
+    assert!(rt; lines.len() == 2);
     for (name, want) in [("A", Some(8)), ("B", Some(5)), ("a", None), ("AB", None)] {
         let name = Text::copy(rt.alloc(), name)?;
-        assert!(rt; lines.get(&name).copied() == want, "{name}");
+        assert!(rt; lines.get(&name).copied() == want);
     }
 
     let mut names = Items::new(rt.alloc());
@@ -137,26 +132,26 @@ fn counts_lines(rt: HostRuntime) {
         ("a\r\nb\rc", 6, 2),
     ] {
         assert!(rt; place as usize <= text.len());
-        assert_eq!(rt; line_of(text, place), want, "{text:?} at {place}");
+        holds(&rt, line_of(text, place) == want, text);
     }
     let span = Span { start: 2, end: 4 };
-    assert_eq!(rt; span, Span { start: 2, end: 4 });
+    assert!(rt; span == Span { start: 2, end: 4 });
 }
 
 #[test]
 fn takes_lines_apart(rt: HostRuntime) {
     let mut lines = Lines::new("a b \r\n\nc");
-    assert_eq!(rt; lines.next_line(), Some("a b \r"));
-    assert_eq!(rt; lines.next_line(), Some(""));
-    assert_eq!(rt; lines.next_line(), Some("c"));
-    assert_eq!(rt; lines.next_line(), None);
+    assert!(rt; lines.next_line() == Some("a b \r"));
+    assert!(rt; lines.next_line() == Some(""));
+    assert!(rt; lines.next_line() == Some("c"));
+    assert!(rt; lines.next_line() == None);
     for (line, want) in [
         ("ok 12 -", ("ok", "12 -")),
         (" ok", ("", "ok")),
         ("held", ("held", "")),
         ("", ("", "")),
     ] {
-        assert_eq!(rt; split_field(line), want, "{line:?}");
+        holds(&rt, split_field(line) == want, line);
     }
 }
 
@@ -174,7 +169,7 @@ fn reads_numbers(rt: HostRuntime) {
         ("-1", None),
         ("1 ", None),
     ] {
-        assert_eq!(rt; number(word), want, "{word:?}");
+        holds(&rt, number(word) == want, word);
     }
 }
 
@@ -188,10 +183,10 @@ fn prints_names(rt: HostRuntime) {
         (FaultKind::Watchdog, "Watchdog"),
         (FaultKind::Depth, "Depth"),
     ] {
-        assert_eq!(rt; kind.name(), want);
+        assert!(rt; kind.name() == want);
     }
     for (code, want) in [(Code::E01, "E01"), (Code::E10, "E10"), (Code::E17, "E17")] {
-        assert_eq!(rt; code.name(), want);
+        assert!(rt; code.name() == want);
     }
 }
 
@@ -205,25 +200,16 @@ fn denies(rt: HostRuntime) -> Result<(), Fail> {
         line: 4,
         kind: Some(FaultKind::Divide),
     });
-    assert_eq!(rt; format!(in rt.alloc(); "{denied:?}")?.as_str(), want);
+    assert!(rt; format!(in rt.alloc(); "{denied:?}")?.as_str() == want);
 
-    assert_eq!(rt;
-        NoMemory::from(AllocError),
-        NoMemory::from(AllocFailed { value: 1 })
-    );
-    assert_eq!(rt;
-        format!(in rt.alloc(); "{}", NoMemory)?.as_str(),
-        "out of memory"
-    );
+    assert!(rt; NoMemory::from(AllocError) == NoMemory::from(AllocFailed { value: 1 }));
+    assert!(rt; format!(in rt.alloc(); "{}", NoMemory)?.as_str() == "out of memory");
     for denied in [
         deny_for_memory(),
         Err(Denied::from(AllocError)),
         Err(Denied::from(AllocFailed { value: 1 })),
     ] {
-        assert_eq!(rt;
-            format!(in rt.alloc(); "{denied:?}")?.as_str(),
-            "Err(NoMemory)"
-        );
+        assert!(rt; format!(in rt.alloc(); "{denied:?}")?.as_str() == "Err(NoMemory)");
     }
     Ok(())
 }
@@ -247,7 +233,7 @@ fn tells_words(rt: HostRuntime) {
     ] {
         let bytes = text.as_bytes();
         let told = (is_word(bytes), is_upper_word(bytes), is_number(bytes));
-        assert_eq!(rt; told, want, "{text:?}");
+        holds(&rt, told == want, text);
     }
     for (text, word, spelled, opened) in [
         ("While", "WHILE", true, true),
@@ -257,8 +243,8 @@ fn tells_words(rt: HostRuntime) {
         ("", "", true, true),
     ] {
         let (bytes, word) = (text.as_bytes(), word.as_bytes());
-        assert_eq!(rt; spells(bytes, word), spelled, "{text:?}");
-        assert_eq!(rt; opens(bytes, word), opened, "{text:?}");
+        holds(&rt, spells(bytes, word) == spelled, text);
+        holds(&rt, opens(bytes, word) == opened, text);
     }
     assert!(rt; b" \t\n\r".iter().all(|byte| is_blank(*byte)));
     assert!(rt; !is_blank(0x0b));

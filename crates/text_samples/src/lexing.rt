@@ -1,7 +1,8 @@
 //! Texts with the tokens and lexemes that they are, and refusals.
 
-use crate::{Lexer, MAX_SOURCE, Next, is_init_on_change, is_no_copy, lexemes, old_name, tokens};
+use crate::holds::holds;
 use plc_text::{Denied, Text};
+use st_lexer::{Lexer, MAX_SOURCE, Next, is_init_on_change, is_no_copy, lexemes, old_name, tokens};
 use st_tree::{Marks, Terminal, TokenKind};
 use std::alloc::{AllocError, Global};
 use std::process::Abort;
@@ -45,7 +46,7 @@ fn listed(alloc: Global, text: &str) -> Result<String, AllocError> {
 fn check(rt: &impl Abort, alloc: Global, table: &[(&str, &str)]) -> Result<(), Fail> {
     for (text, want) in table {
         let list = listed(alloc, text)?;
-        assert_eq!(rt; list.as_str(), *want, "{text:?}");
+        holds(rt, list.as_str() == *want, text);
     }
     Ok(())
 }
@@ -145,8 +146,8 @@ fn reads_marks(rt: HostRuntime) -> Result<(), Fail> {
 #[test]
 fn tells_marks(rt: HostRuntime) {
     let mark = "{Renamed_From\n Old_1}";
-    assert_eq!(rt; old_name(mark), Some("Old_1"));
-    assert_eq!(rt; old_name("{}"), None);
+    assert!(rt; old_name(mark) == Some("Old_1"));
+    assert!(rt; old_name("{}") == None);
     assert!(rt; !is_no_copy(mark) && !is_init_on_change(mark));
     assert!(rt; !is_no_copy("(attribute 'no_copy')") && old_name("renamed_from old").is_none());
     assert!(rt; is_no_copy("{attribute'No_Copy'}"));
@@ -158,18 +159,18 @@ fn keeps_marks_with_the_lexeme_behind(rt: HostRuntime) -> Result<(), Fail> {
     let alloc = rt.alloc();
     let text = "{renamed_from a}{attribute 'no_copy'}x{} : {renamed_from b}\n{renamed_from c}y";
     let found = tokens(alloc, text)?;
-    assert_eq!(rt; found.len(), 7);
-    assert_eq!(rt; found[0].terminal, None);
+    assert!(rt; found.len() == 7);
+    assert!(rt; found[0].terminal == None);
     let found = lexemes(alloc, &found)?;
-    assert_eq!(rt; found.len(), 3);
+    assert!(rt; found.len() == 3);
     let marks = found[0].copy_marks(alloc)?;
     assert!(rt; marks.no_copy && !marks.init_on_change);
-    assert_eq!(rt; marks.renamed_from, Some(Text::copy(alloc, "A")?));
-    assert_eq!(rt; found[1].terminal, Terminal::Colon);
-    assert_eq!(rt; found[1].copy_marks(alloc)?, Marks::none());
+    assert!(rt; marks.renamed_from == Some(Text::copy(alloc, "A")?));
+    assert!(rt; found[1].terminal == Terminal::Colon);
+    assert!(rt; found[1].copy_marks(alloc)? == Marks::none());
     assert!(rt; found[2].text == "y" && found[2].line == 2);
     let marks = found[2].copy_marks(alloc)?;
-    assert_eq!(rt; marks.renamed_from, Some(Text::copy(alloc, "B")?));
+    assert!(rt; marks.renamed_from == Some(Text::copy(alloc, "B")?));
     Ok(())
 }
 
@@ -199,11 +200,11 @@ fn refuses_bad_places(rt: HostRuntime) -> Result<(), Fail> {
 fn gives_the_same_after_the_end(rt: HostRuntime) {
     let mut lexer = Lexer::new("a");
     assert!(rt; matches!(lexer.next(), Next::Token(_)));
-    assert_eq!(rt; lexer.next(), Next::End);
-    assert_eq!(rt; lexer.next(), Next::End);
+    assert!(rt; lexer.next() == Next::End);
+    assert!(rt; lexer.next() == Next::End);
     let mut lexer = Lexer::new(" $a");
-    assert_eq!(rt; lexer.next(), Next::Bad(1));
-    assert_eq!(rt; lexer.next(), Next::Bad(1));
+    assert!(rt; lexer.next() == Next::Bad(1));
+    assert!(rt; lexer.next() == Next::Bad(1));
 }
 
 /// A source of line feeds.
@@ -218,8 +219,8 @@ fn lines(alloc: Global, count: usize) -> Result<Text, Fail> {
 #[test]
 fn refuses_a_long_source(rt: HostRuntime) -> Result<(), Fail> {
     let longest = lines(rt.alloc(), MAX_SOURCE)?;
-    assert_eq!(rt; listed(rt.alloc(), longest.as_str())?.as_str(), "");
+    assert!(rt; listed(rt.alloc(), longest.as_str())?.as_str() == "");
     let longer = lines(rt.alloc(), MAX_SOURCE + 1)?;
-    assert_eq!(rt; listed(rt.alloc(), longer.as_str())?.as_str(), "E16 - 1");
+    assert!(rt; listed(rt.alloc(), longer.as_str())?.as_str() == "E16 - 1");
     Ok(())
 }

@@ -2,8 +2,8 @@
 
 ghost use Rattle.std.specs.Prelude.{◌≡◌, ◌∷◌, [], ◌++◌, OnOk};
 
-use crate::{AddError, Names};
 use plc_text::Text;
+use st_names::{AddError, Names};
 use std::test::Fail;
 
 #[derive(Drop)]
@@ -27,9 +27,9 @@ fn note<V: Drop>(names: &mut Names<V>, name: Text, value: V) -> Result<(), Text>
 fn is_empty_at_first(rt: HostRuntime) -> Result<(), Fail> {
     let names: Names<u32> = Names::new(rt.alloc());
     let a = Text::copy(rt.alloc(), "A")?;
-    assert_eq!(rt; names.len(), 0);
+    assert!(rt; names.len() == 0);
     assert!(rt; names.is_empty());
-    assert_eq!(rt; names.find(&a), None);
+    assert!(rt; names.find(&a) == None);
     assert!(rt; names.get(&a).is_none());
     assert!(rt; names.iter().next().is_none());
     Ok(())
@@ -41,31 +41,31 @@ fn keeps_the_order_of_adding(rt: HostRuntime) -> Result<(), Fail> {
     let mut names = Names::new(rt.alloc());
     for (i, word) in words.iter().enumerate() {
         let word = Text::copy(rt.alloc(), word)?;
-        assert_eq!(rt; names.add(word, 10 * (i as u32)).ok(), Some(i as u32));
+        assert!(rt; (names.add(word, 10 * (i as u32)).ok()) == (Some(i as u32)));
     }
-    assert_eq!(rt; names.len(), 5);
+    assert!(rt; names.len() == 5);
     assert!(rt; !names.is_empty());
     for (i, word) in words.iter().enumerate() {
         let n = i as u32;
         let word = Text::copy(rt.alloc(), word)?;
-        assert_eq!(rt; names.find(&word), Some(n));
+        assert!(rt; names.find(&word) == Some(n));
         assert!(rt; names.get(&word).copied() == Some(10 * n));
         assert!(rt; n < names.len());
-        assert_eq!(rt; names.key(n).as_str(), word.as_str());
-        assert_eq!(rt; *names.at(n), 10 * n);
+        assert!(rt; names.key(n).as_str() == word.as_str());
+        assert!(rt; *names.at(n) == 10 * n);
     }
     let absent = Text::copy(rt.alloc(), "MOTO")?;
-    assert_eq!(rt; names.find(&absent), None);
+    assert!(rt; names.find(&absent) == None);
     assert!(rt; names.get(&absent).is_none());
 
     let mut place = 0usize;
     for (key, value) in names.iter() {
         assert!(rt; place < 5);
-        assert_eq!(rt; key.as_str(), words[place]);
-        assert_eq!(rt; *value, 10 * (place as u32));
+        assert!(rt; key.as_str() == words[place]);
+        assert!(rt; *value == (10 * (place as u32)));
         place += 1;
     }
-    assert_eq!(rt; place, 5);
+    assert!(rt; place == 5);
     Ok(())
 }
 
@@ -81,10 +81,10 @@ fn takes_no_name_twice(rt: HostRuntime) -> Result<(), Fail> {
     let kind = Text::copy(rt.alloc(), "VAR")?;
     match names.add(again, Declaration { line: 2, kind }) {
         Err(AddError::Taken { first, key, value }) => {
-            assert_eq!(rt; first, 0);
-            assert_eq!(rt; key.as_str(), "A");
-            assert_eq!(rt; value.line, 2);
-            assert_eq!(rt; value.kind.as_str(), "VAR");
+            assert!(rt; first == 0);
+            assert!(rt; key.as_str() == "A");
+            assert!(rt; value.line == 2);
+            assert!(rt; value.kind.as_str() == "VAR");
         }
         Err(
             AddError::NoMemory {
@@ -94,18 +94,15 @@ fn takes_no_name_twice(rt: HostRuntime) -> Result<(), Fail> {
         ) => assert!(rt; false),
         Ok(_) => assert!(rt; false),
     }
-    assert_eq!(rt; names.len(), 2);
-    assert_eq!(rt; names.at(0).line, 1);
-    assert_eq!(rt; names.at(0).kind.as_str(), "A");
+    assert!(rt; names.len() == 2);
+    assert!(rt; names.at(0).line == 1);
+    assert!(rt; names.at(0).kind.as_str() == "A");
 
     // Case is the caller's matter: this name is not folded.
     let small = Text::copy(rt.alloc(), "a")?;
-    assert_eq!(rt; names.find(&small), None);
+    assert!(rt; names.find(&small) == None);
     let kind = Text::new(rt.alloc());
-    assert_eq!(rt;
-        names.add(small, Declaration { line: 3, kind }).ok(),
-        Some(2)
-    );
+    assert!(rt; names.add(small, Declaration { line: 3, kind }).ok() == Some(2));
     Ok(())
 }
 
@@ -115,9 +112,8 @@ fn holds_texts(rt: HostRuntime) -> Result<(), Fail> {
     let name = Text::folded(rt.alloc(), "x1")?;
     let value = Text::copy(rt.alloc(), "INT")?;
     assert!(rt; note(&mut names, name, value).is_ok());
-    assert_eq!(rt;
-        format!(in rt.alloc(); "{names:?}")?.as_str(),
-        "Names { pairs: {\"X1\": \"INT\"} }"
+    assert!(rt;
+        format!(in rt.alloc(); "{names:?}")?.as_str() == "Names { pairs: {\"X1\": \"INT\"} }"
     );
     Ok(())
 }
