@@ -11,8 +11,6 @@ mod line_error;
 mod outputs;
 mod play;
 mod reading;
-#[cfg(test)]
-mod tests;
 mod writing;
 
 pub use entry::{Answer, CycleReply, Entry};

@@ -18,6 +18,3 @@ pub use sink::{Sink, Took};
 pub use source::{Got, Source};
 pub use standard::{StdSink, StdSource};
 pub use writing::{WriteFault, write_all};
-
-#[cfg(test)]
-mod tests;

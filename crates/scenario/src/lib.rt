@@ -9,8 +9,6 @@ mod reader;
 mod reading;
 mod scenario;
 mod scenario_error;
-#[cfg(test)]
-mod tests;
 
 pub use made::make_load;
 pub use reading::{one_scenario, read_scenario};

@@ -1,7 +1,8 @@
 //! Scenarios by example: what is read, which line is bad, the limits, and the scenario that is made.
 
-use crate::{Scenario, ScenarioError, make_load, read_scenario};
+use crate::holds::holds;
 use cycle_journal::Play;
+use scenario::{Scenario, ScenarioError, make_load, read_scenario};
 use std::alloc::{AllocError, Global};
 use std::str;
 use std::test::Fail;
@@ -60,18 +61,15 @@ fn reads_what_is_there(rt: HostRuntime) -> Result<(), Fail> {
         "\u{feff}@program\r\nGröße\r\n\r\n\r @x\n@source b1\n@source _a\nx\ry\r\r\n@plays\nsync\n\
         cycle Main 007 -\r\ncycle iF 4294967295 0aFf\nsync\nsync\nchange B1\nreset while\n@end\r\n\n\r\n";
     let scenario = read(alloc, text)?;
-    assert_eq!(rt;
-        account(alloc, &scenario)?.as_str(),
-        "Größe\n\n\r @x\nB1: _A: x\ry\r\ncycle MAIN 7 []\ncycle IF 4294967295 [10, 255]\nchange B1 0\nreset WHILE\n\
+    assert!(rt;
+        account(alloc, &scenario)?.as_str()
+            == "Größe\n\n\r @x\nB1: _A: x\ry\r\ncycle MAIN 7 []\ncycle IF 4294967295 [10, 255]\nchange B1 0\nreset WHILE\n\
         1 to 1\n1 to 3\n3 to 3\n3 to 5\n"
     );
     let least = read(alloc, "@program\n@plays\n@end")?;
-    assert_eq!(rt; account(alloc, &least)?.as_str(), "1 to 1\n");
+    assert!(rt; account(alloc, &least)?.as_str() == "1 to 1\n");
     let syncs = read(alloc, "@program\n@plays\nreset A\nsync\n@end\n")?;
-    assert_eq!(rt;
-        account(alloc, &syncs)?.as_str(),
-        "reset A\n1 to 2\n2 to 2\n"
-    );
+    assert!(rt; account(alloc, &syncs)?.as_str() == "reset A\n1 to 2\n2 to 2\n");
     Ok(())
 }
 
@@ -123,7 +121,7 @@ fn tells_the_bad_line(rt: HostRuntime) -> Result<(), Fail> {
         (b"@program\n@plays\nreset MAIN\nReset MAIN\n@end\n", 4),
     ];
     for (bytes, line) in table {
-        assert_eq!(rt; bad_line(rt.alloc(), bytes)?, Some(line), "at {bytes:?}");
+        assert!(rt; bad_line(rt.alloc(), bytes)? == Some(line));
     }
     Ok(())
 }
@@ -174,7 +172,7 @@ fn tells_what_is_no_play(rt: HostRuntime) -> Result<(), Fail> {
         "play",
     ] {
         let text = format!(in alloc; "@program\n@source A\n@plays\n{line}\n@end\n")?;
-        assert_eq!(rt; bad_line(alloc, text.as_bytes())?, Some(4), "at {line:?}");
+        holds(&rt, bad_line(alloc, text.as_bytes())? == Some(4), line);
     }
     Ok(())
 }
@@ -239,17 +237,9 @@ fn keeps_the_limits(rt: HostRuntime) -> Result<(), Fail> {
         ),
     ] {
         let full = repeated(alloc, front, piece, limit, numbered, back)?;
-        assert_eq!(rt;
-            bad_line(alloc, full.as_bytes())?,
-            None,
-            "{limit} times {piece:?}"
-        );
+        holds(&rt, bad_line(alloc, full.as_bytes())? == None, piece);
         let over = repeated(alloc, front, piece, limit + 1, numbered, back)?;
-        assert_eq!(rt;
-            bad_line(alloc, over.as_bytes())?,
-            Some(line),
-            "{limit} times {piece:?} and one"
-        );
+        holds(&rt, bad_line(alloc, over.as_bytes())? == Some(line), piece);
     }
     Ok(())
 }
@@ -321,11 +311,7 @@ fn refuses_what_is_cut(rt: HostRuntime) -> Result<(), Fail> {
     for len in 0..=CONVEYOR.len() {
         let front = str::from_utf8(&CONVEYOR.as_bytes()[..len])?;
         let told = bad_line(rt.alloc(), front.as_bytes())?;
-        assert_eq!(rt;
-            told.map(|line| line as usize),
-            bad_after_cut(front),
-            "after {len} bytes"
-        );
+        assert!(rt; (told.map(|line| line as usize)) == bad_after_cut(front));
     }
     Ok(())
 }
@@ -381,12 +367,9 @@ fn makes_what_its_text_is_read_as(rt: HostRuntime) -> Result<(), Fail> {
         let text = made_text(alloc, rounds)?;
         let scenario = read(alloc, text.as_str())?;
         let wanted = account(alloc, &scenario)?;
-        assert!(rt;
-            account(alloc, &made)?.as_str() == wanted.as_str(),
-            "{rounds} rounds"
-        );
-        assert_eq!(rt; made.plays.len() as u64, 33 * u64::from(rounds));
-        assert_eq!(rt; made.phases.len() as u64, 2 * u64::from(rounds) + 1);
+        assert!(rt; account(alloc, &made)?.as_str() == wanted.as_str());
+        assert!(rt; (made.plays.len() as u64) == 33 * u64::from(rounds));
+        assert!(rt; (made.phases.len() as u64) == 2 * u64::from(rounds) + 1);
     }
     Ok(())
 }

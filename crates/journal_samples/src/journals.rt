@@ -1,6 +1,9 @@
 //! Journals by example: their texts, and texts that are none.
 
-use crate::{Answer, Entry, JournalError, Outputs, Play, are_named, journal_text, read_journal};
+use crate::holds::holds;
+use cycle_journal::{
+    Answer, Entry, JournalError, Outputs, Play, are_named, journal_text, read_journal,
+};
 use plc_text::{Code, Fault, FaultKind, Items, NoMemory, Refusal, Text};
 use std::alloc::{AllocError, Global};
 use std::test::Fail;
@@ -115,10 +118,7 @@ fn writes_and_reads_cycles(rt: HostRuntime) -> Result<(), Fail> {
             "4294967295 1 cycle MAIN 0 notask 10",
         ),
     ] {
-        assert!(rt;
-            is_written(alloc, version, play, answer, line)?,
-            "at {line}"
-        );
+        holds(&rt, is_written(alloc, version, play, answer, line)?, line);
     }
     Ok(())
 }
@@ -149,10 +149,7 @@ fn writes_and_reads_changes_and_resets(rt: HostRuntime) -> Result<(), Fail> {
         (1, 4, Answer::Released, "1 4 reset MAIN ok"),
         (1, 4, Answer::NoTask(0), "1 4 reset MAIN notask 0"),
     ] {
-        assert!(rt;
-            is_written(alloc, version, play, answer, line)?,
-            "at {line}"
-        );
+        holds(&rt, is_written(alloc, version, play, answer, line)?, line);
     }
     Ok(())
 }
@@ -183,7 +180,7 @@ fn tells_the_line_that_is_bad(rt: HostRuntime) {
         ),
         ("load 1\n1 1 cycle MAIN 0 held\nend 1\nend 1\n", 4),
     ] {
-        assert_eq!(rt; bad_line(rt.alloc(), text), Some(line), "at {text:?}");
+        holds(&rt, bad_line(rt.alloc(), text) == Some(line), text);
     }
 }
 
@@ -214,7 +211,7 @@ fn takes_one_spelling(rt: HostRuntime) -> Result<(), Fail> {
         "1 3 change _STEP_2 refused E18 - 1",
     ] {
         let text = with_line(rt.alloc(), line)?;
-        assert_eq!(rt; bad_line(rt.alloc(), text.as_str()), Some(2), "at {line:?}");
+        holds(&rt, bad_line(rt.alloc(), text.as_str()) == Some(2), line);
     }
     Ok(())
 }

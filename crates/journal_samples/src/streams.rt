@@ -3,7 +3,10 @@ ghost use Rattle.std.specs.Prelude.{◌≡◌, ◌≤◌, length, OnOk, IfOk, If
 ghost use Rattle.std.specs.Io.KnownBytes.{Appends};
 ghost use Rattle.plc_io.specs.Faults.{Rose};
 
-use super::*;
+use plc_io::{
+    MemSink, MemSource, ReadError, Sink, Source, StdSink, StdSource, WriteFault, read_all,
+    write_all,
+};
 use std::alloc::{AllocError, Global};
 use std::io;
 use std::io::{Error, ErrorKind, Read, Write};
@@ -43,12 +46,8 @@ fn copies_in_pieces(rt: HostRuntime) -> Result<(), Fail> {
         let mut src = source(alloc, from_piece, &[])?;
         let mut out = MemSink::new(alloc, 20, to_piece, Vec::new(alloc))?;
         copy(alloc, &mut src, &mut out, 20)?;
-        assert_eq!(rt;
-            out.bytes(),
-            TEXT.as_slice(),
-            "in pieces of {from_piece} and {to_piece}"
-        );
-        assert_eq!(rt; (src.faults(), out.faults()), (0, 0));
+        assert!(rt; out.bytes() == TEXT.as_slice());
+        assert!(rt; (src.faults(), out.faults()) == (0, 0));
     }
     Ok(())
 }
@@ -65,9 +64,9 @@ fn reads_up_to_the_limit(rt: HostRuntime) -> Result<(), Fail> {
     ] {
         let mut src = source(alloc, 3, &[])?;
         let read = read_all(alloc, &mut src, limit);
-        assert_eq!(rt; read.is_ok(), fits, "at {limit}");
+        assert!(rt; read.is_ok() == fits);
         if !fits {
-            assert_eq!(rt; read.err(), Some(ReadError::TooLong), "at {limit}");
+            assert!(rt; read.err() == Some(ReadError::TooLong));
         }
     }
     Ok(())
@@ -78,10 +77,10 @@ fn a_failed_read_leaves_the_rest(rt: HostRuntime) -> Result<(), Fail> {
     let alloc = rt.alloc();
     let mut src = source(alloc, 3, &[3])?;
     let read = read_all(alloc, &mut src, 100);
-    assert_eq!(rt; read.err(), Some(ReadError::ReadFault));
-    assert_eq!(rt; src.faults(), 1);
+    assert!(rt; read.err() == Some(ReadError::ReadFault));
+    assert!(rt; src.faults() == 1);
     let rest = read_all(alloc, &mut src, 100)?;
-    assert_eq!(rt; rest.as_slice(), b" bytes of text".as_slice());
+    assert!(rt; rest.as_slice() == b" bytes of text".as_slice());
     Ok(())
 }
 
@@ -89,11 +88,11 @@ fn a_failed_read_leaves_the_rest(rt: HostRuntime) -> Result<(), Fail> {
 fn a_failed_write_says_what_was_sent(rt: HostRuntime) -> Result<(), Fail> {
     let alloc = rt.alloc();
     let mut out = MemSink::new(alloc, 20, 7, [2].to_vec(alloc)?)?;
-    assert_eq!(rt; write_all(&mut out, TEXT), Err(WriteFault { sent: 7 }));
-    assert_eq!(rt; out.bytes(), b"twenty ".as_slice());
-    assert_eq!(rt; out.faults(), 1);
-    assert_eq!(rt; write_all(&mut out, b"!"), Ok(()));
-    assert_eq!(rt; out.bytes(), b"twenty !".as_slice());
+    assert!(rt; write_all(&mut out, TEXT) == Err(WriteFault { sent: 7 }));
+    assert!(rt; out.bytes() == b"twenty ".as_slice());
+    assert!(rt; out.faults() == 1);
+    assert!(rt; write_all(&mut out, b"!") == Ok(()));
+    assert!(rt; out.bytes() == b"twenty !".as_slice());
     Ok(())
 }
 
@@ -101,10 +100,10 @@ fn a_failed_write_says_what_was_sent(rt: HostRuntime) -> Result<(), Fail> {
 fn a_full_sink_fails(rt: HostRuntime) -> Result<(), Fail> {
     let alloc = rt.alloc();
     let mut out = MemSink::new(alloc, 10, 7, Vec::new(alloc))?;
-    assert_eq!(rt; write_all(&mut out, TEXT), Err(WriteFault { sent: 10 }));
-    assert_eq!(rt; out.bytes(), b"twenty byt".as_slice());
-    assert_eq!(rt; write_all(&mut out, b"!"), Err(WriteFault { sent: 0 }));
-    assert_eq!(rt; out.faults(), 2);
+    assert!(rt; write_all(&mut out, TEXT) == Err(WriteFault { sent: 10 }));
+    assert!(rt; out.bytes() == b"twenty byt".as_slice());
+    assert!(rt; write_all(&mut out, b"!") == Err(WriteFault { sent: 0 }));
+    assert!(rt; out.faults() == 2);
     Ok(())
 }
 
@@ -126,20 +125,20 @@ fn std_readers_and_writers(rt: HostRuntime) -> Result<(), Fail> {
     let alloc = rt.alloc();
     let mut src = StdSource::new(TEXT.as_slice());
     let read = read_all(alloc, &mut src, 100)?;
-    assert_eq!(rt; read.as_slice(), TEXT.as_slice());
+    assert!(rt; read.as_slice() == TEXT.as_slice());
 
     let mut held = Vec::new(alloc);
     let mut out = StdSink::new(&mut held);
-    assert_eq!(rt; write_all(&mut out, TEXT), Ok(()));
-    assert_eq!(rt; out.faults(), 0);
+    assert!(rt; write_all(&mut out, TEXT) == Ok(()));
+    assert!(rt; out.faults() == 0);
     let _ = out;
-    assert_eq!(rt; held.as_slice(), TEXT.as_slice());
+    assert!(rt; held.as_slice() == TEXT.as_slice());
 
     // A slice takes no more than it has room for.
     let mut room = [0u8; 5];
     let mut out = StdSink::new(room.as_mut_slice());
-    assert_eq!(rt; write_all(&mut out, TEXT), Err(WriteFault { sent: 5 }));
-    assert_eq!(rt; out.faults(), 1);
+    assert!(rt; write_all(&mut out, TEXT) == Err(WriteFault { sent: 5 }));
+    assert!(rt; out.faults() == 1);
     Ok(())
 }
 
@@ -170,9 +169,9 @@ fn std_errors_are_counted(rt: HostRuntime) {
     let mut out = StdSink::new(Broken);
     for count in 1..=3u64 {
         let read = read_all(alloc, &mut src, 100);
-        assert_eq!(rt; read.err(), Some(ReadError::ReadFault));
-        assert_eq!(rt; src.faults(), count);
-        assert_eq!(rt; write_all(&mut out, TEXT), Err(WriteFault { sent: 0 }));
-        assert_eq!(rt; out.faults(), count);
+        assert!(rt; read.err() == Some(ReadError::ReadFault));
+        assert!(rt; src.faults() == count);
+        assert!(rt; write_all(&mut out, TEXT) == Err(WriteFault { sent: 0 }));
+        assert!(rt; out.faults() == count);
     }
 }
