@@ -1,9 +1,0 @@
-pub mod CheckLaws
-pub mod NameLaws
-pub mod Parts
-pub mod PlayLines
-pub mod ScenarioParts
-pub mod Pieces
-pub mod AnswerLaws
-pub mod CycleLaws
-pub mod RunLaws

@@ -1,10 +1,1 @@
-pub mod Among
-pub mod NameView
-pub mod Scenario
-pub mod ScenarioReading
-pub mod Accepted
-pub mod Checking
-pub mod Meaning
-pub mod OneThread
-pub mod Answers
-pub mod Cycling
+pub mod Plc

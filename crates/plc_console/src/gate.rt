@@ -1,3 +1,5 @@
+//! What threads of tasks pass.
+
 use plc_text::Text;
 
 /// What each cycle passes before it runs on a thread of its own.

@@ -1,16 +1,12 @@
-//! The program `plc`: it runs a scenario of an IEC 61131-3 Structured Text program and writes the journal.
+//! The program `plc`: it checks and runs scenarios of IEC 61131-3 Structured Text programs.
 #![tactic(auto)]
 
-mod check;
-mod cycle;
 mod gate;
-mod name_table;
 mod plc;
-mod program;
-mod scenario;
 
 use crate::gate::OpenGate;
-use crate::plc::{Status, plc};
+use crate::plc::plc;
+use console_command::Status;
 use plc_io::{StdSink, StdSource};
 use plc_text::{NoMemory, Text};
 use std::alloc::Global;

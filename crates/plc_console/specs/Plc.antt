@@ -1,0 +1,29 @@
+-- How a command ended, by the status of the program, and what each command writes.
+use Rattle.std.specs.Prelude.{ℕ, List}
+use Rattle.check_console.specs.Report.{CheckReports}
+use Rattle.console_command.specs.declared.outcome.Cause.TheVariants as cause
+use Rattle.console_command.specs.declared.outcome.Outcome.{Outcome}
+use Rattle.console_command.specs.declared.outcome.Outcome.TheVariants as outcome
+use Rattle.console_command.specs.declared.outcome.Status.{Status}
+use Rattle.console_command.specs.declared.outcome.Status.TheVariants as status
+use Rattle.console_command.specs.declared.outcome.Verdict.{Verdict}
+use Rattle.console_command.specs.declared.outcome.Verdict.TheVariants as verdict
+use Rattle.console_words.specs.declared.words.Order.{Order}
+use Rattle.console_words.specs.declared.words.Order.TheVariants.{Check, Play}
+use Rattle.language_judge.specs.Judge.{Accepts, Refuses}
+use Rattle.play_console.specs.Report.{PlayReports}
+
+abbrev pub outcome_of : Status → Outcome
+outcome_of status.Done = outcome.Whole verdict.Done
+outcome_of status.Refused = outcome.Whole verdict.Refused
+outcome_of status.Usage = outcome.Silent cause.Usage
+outcome_of status.Script = outcome.Whole verdict.Script
+outcome_of status.ReadFault = outcome.Silent cause.ReadFault
+outcome_of status.WriteFault = outcome.Cut
+outcome_of status.NoMemory = outcome.Silent cause.NoMemory
+outcome_of status.TooLong = outcome.Silent cause.TooLong
+
+-- a report of this verdict that a command makes on bytes
+abbrev pub ReportsOf : Order → List ℕ → Verdict → List ℕ → Type 0
+ReportsOf Check = CheckReports Accepts Refuses
+ReportsOf Play = PlayReports Accepts Refuses
