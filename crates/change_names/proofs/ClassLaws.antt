@@ -12,14 +12,11 @@ use Rattle.st_tree.specs.declared.program.Program.{Program as CheckedProgram}
 use Rattle.st_values.specs.Program.{Variable, a_program, Class, Program, class_at, class_number, own_of, chain_of}
 use Rattle.st_values.specs.View.{sort_of, class_of, program_of, programs_from}
 use Rattle.st_values.specs.Value.{◌>>=◌}
-use Rattle.st_change.specs.From.{Pairs, same_flag, is_program, of_sort, old_class, from, pairs_by, own_pairs, chain_pairs, class_pairs}
+use Rattle.st_change.specs.From.{same_flag, is_program, of_sort, old_class, from, pairs_by, own_pairs, chain_pairs, class_pairs}
 use Rattle.program_tables.proofs.ClassLaws.{within_get, class_is_there, program_at, count_classes}
-use Rattle.st_initial.specs.declared.variables.Variable as held
-use Rattle.st_initial.specs.Variables.{variables_of}
-use Rattle.st_initial.proofs.VariableLaws.{program_owns}
 use Rattle.change_pairs.specs.declared.sources.Pair.{Pair}
 use Rattle.change_pairs.specs.Pairs.{pairs_of}
-use Rattle.change_names.specs.Private.Classes.{class_by, own_pairs_at, AreOwnPairs}
+use Rattle.change_names.specs.Private.Classes.{own_pairs_at, AreOwnPairs}
 use Rattle.change_names.proofs.ListLaws.{split}
 
 names_of_programs : (c k : ℕ) (ds : List (ProgramDecl Note)) → option_map (λ k. k.name) (slice_get (programs_from c ds) k) ≡ option_map (λ d. d.name.text) (slice_get ds k)

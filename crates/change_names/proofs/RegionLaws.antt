@@ -4,12 +4,12 @@ use Rattle.std.specs.Prelude.{option_map, option_and_then, slice_get}
 use Rattle.st_rules.specs.Named.{first_place}
 use Rattle.st_values.specs.Program.{Region, Program}
 use Rattle.st_values.specs.Value.{◌>>=◌}
-use Rattle.st_change.specs.From.{Pairs, old_name, new_name, region_from, region_pairs_by, region_pairs, names_of_regions, region_number, old_region, new_region}
+use Rattle.st_change.specs.From.{Pairs, old_name, new_name, region_from, region_pairs_by, region_pairs, names_of_regions}
 use Rattle.change_pairs.specs.declared.regions.Placed.{Placed}
 use Rattle.change_pairs.specs.Places.{Table, found_in}
-use Rattle.change_pairs.specs.Regions.{region_of, regions_of}
+use Rattle.change_pairs.specs.Regions.{regions_of}
 use Rattle.change_names.specs.declared.regions.RegionNumbers.{RegionNumbers}
-use Rattle.change_names.specs.Regions.{number_in, number_at, AreNumbers}
+use Rattle.change_names.specs.Regions.{number_at, AreNumbers}
 use Rattle.change_names.specs.Private.Places.{ArePlacesOf}
 
 pub names_by : (xs : List Placed) → map (λ x. x.variable.name.now) xs ≡ names_of_regions (regions_of xs)

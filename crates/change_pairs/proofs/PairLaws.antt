@@ -1,13 +1,13 @@
 -- What tables of pairs tell is what the definitions search.
-use Rattle.std.proofs.Common.{◌≡◌, ℕ, zero, suc, Bool, true, false, List, [], ◌∷◌, Option, Some, None, refl, sym, ap, ◌∙◌}
+use Rattle.std.proofs.Common.{◌≡◌, ℕ, suc, Bool, true, false, List, [], ◌∷◌, Option, Some, None, refl, sym, ap, ◌∙◌}
 use Rattle.std.proofs.Math.Dec.{eqb-suc-zero, eqb-zero-suc, eqb-suc-suc}
-use Rattle.std.specs.Prelude.{if◌then◌else◌, is_some, nat_eq, option_map, slice_get}
+use Rattle.std.specs.Prelude.{if◌then◌else◌, is_some, option_map, slice_get}
 use Rattle.plc_text.specs.Words.{same}
 use Rattle.st_change.proofs.Settled.{same_self}
-use Rattle.st_change.specs.From.{Pairs, is_name, comes_from, unless_later, old_name, or_this, new_name}
+use Rattle.st_change.specs.From.{is_name, comes_from, unless_later, old_name, or_this, new_name}
 use Rattle.change_pairs.specs.declared.sources.Pair.{Pair}
 use Rattle.change_pairs.specs.Pairs.{pair_of, pairs_of}
-use Rattle.change_pairs.specs.Places.{Table, found_in, Finds, first_where, or_here, last_where}
+use Rattle.change_pairs.specs.Places.{Table, found_in, first_where, or_here, last_where}
 use Rattle.change_pairs.specs.Private.Variables.{is_pair_of, AreTables, from_at, named_at, is_at, unless_by}
 use Rattle.change_pairs.specs.Private.Variables as words
 

@@ -1,11 +1,11 @@
 -- Old names by places are those of the definitions.
-use Rattle.std.proofs.Common.{◌≡◌, ◌≤◌, ◌<◌, ℕ, suc, ◌+◌, Bool, true, false, List, [], ◌∷◌, ◌++◌, length, get_or, take, drop, Option, Some, None, refl, sym, ap, ◌∙◌, append_assoc, append-nil}
+use Rattle.std.proofs.Common.{◌≡◌, ◌≤◌, ◌<◌, ℕ, suc, ◌+◌, Bool, true, false, List, [], ◌∷◌, ◌++◌, length, get_or, drop, Option, Some, None, refl, sym, ap, ◌∙◌, append_assoc, append-nil}
 use Rattle.std.proofs.lemmas.List.{map-append}
-use Rattle.std.specs.Prelude.{if◌then◌else◌, not, ◌&&◌, is_some, option_map, option_and_then, slice_get}
+use Rattle.std.specs.Prelude.{if◌then◌else◌, not, ◌&&◌, is_some, option_map}
 use Rattle.plc_text.specs.Words.{same}
 use Rattle.st_rules.proofs.ListLaws.{drop-at, drop-end}
 use Rattle.st_values.specs.Program.{Variable}
-use Rattle.st_change.specs.From.{Pairs, declares, is_name, marked, own_name, from_mark, from, pairs_by, same_name}
+use Rattle.st_change.specs.From.{declares, is_name, marked, own_name, from_mark, from, pairs_by, same_name}
 use Rattle.st_initial.specs.declared.variables.Variable as held
 use Rattle.st_initial.specs.Variables.{variable_of, variables_of}
 use Rattle.change_pairs.specs.declared.sources.Pair.{Pair}

@@ -1,5 +1,5 @@
 -- Hooks one by one.
-use Rattle.std.specs.Prelude.{◌≡◌, ℕ, Bool, false, List, Option, Some, None}
+use Rattle.std.specs.Prelude.{◌≡◌, ℕ, Bool, false, List, Some}
 use Rattle.plc_text.specs.Words.{same}
 use Rattle.st_tree.specs.declared.declaration.Member.{Member}
 use Rattle.st_tree.specs.declared.declaration.Member.TheVariants as member

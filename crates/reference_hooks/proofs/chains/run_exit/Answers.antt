@@ -1,6 +1,6 @@
 use Rattle.std.proofs.Common.{[], ◌∷◌}
 use Rattle.st_values.specs.View.{program_of}
-use Rattle.st_change.specs.Hook.{at_exit, init_flags}
+use Rattle.st_change.specs.Hook.{at_exit}
 use Rattle.value_trees.specs.Value.{members_of}
 use Rattle.reference_hooks.proofs.ChainLaws.{first_next, next, stops_all}
 use Rattle.reference_hooks.proofs.chains.run_exit.Goals as goal

@@ -1,4 +1,3 @@
-use Rattle.std.proofs.Common.{[], ◌∷◌}
 use Rattle.st_values.specs.View.{program_of}
 use Rattle.st_change.specs.Hook.{at_init, init_flags}
 use Rattle.value_trees.specs.Value.{members_of}

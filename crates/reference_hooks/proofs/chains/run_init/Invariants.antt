@@ -1,5 +1,5 @@
-use Rattle.std.proofs.Common.{◌≡◌, [], ◌∷◌, length, reverse}
-use Rattle.st_change.specs.Hook.{at_init, hooks_along, init_flags, init_hooks, exit_hooks, run_hooks}
+use Rattle.std.proofs.Common.{◌≡◌, length, reverse}
+use Rattle.st_change.specs.Hook.{at_init, hooks_along, init_flags, init_hooks, run_hooks}
 use Rattle.st_values.specs.View.{program_of}
 use Rattle.value_trees.specs.Value.{members_of}
 use Rattle.reference_hooks.specs.Hooks.{member_of}
