@@ -6,8 +6,6 @@ mod layout;
 mod places;
 mod rounds;
 mod sizes;
-#[cfg(test)]
-mod tests;
 mod ways;
 
 pub use layout::Layout;

@@ -3,17 +3,18 @@
 //! Lines end with `;`, and a line begins with what it adds:
 //! `s NAME VARIABLES` a structure; `e NAME` an enumeration; `c NAME BASE SECTIONS` a class, with `-` for no base; `i NAME` an interface
 //! without methods; `p NAME SECTIONS` a program; `r NAME TYPE=VALUE` a region.
-//! Sections end with `|` and begin with their sort: `v` VAR, `k` VAR CONSTANT, `o` outputs, `i` inputs, `t` temporary variables.
+//! Sections end with `|` and begin with their sort: `v` VAR, `k` VAR CONSTANT, `o` outputs, `i` inputs, `t` temporary variables. In a class
+//! `m NAME` is a method, which has nothing in it.
 //! Variables end with `,`, as `NAME:TYPE=VALUE`, with nothing behind `=` where none is given.
 //! Types: an elementary name, `eN` an enumeration, `rN` a reference, `fN` an interface, `sN` a structure, `bN` an instance, and
-//! `LOW~HIGH*TYPE` an array.
+//! `LOW~HIGH*TYPE` an array, of arrays too.
 //! Values: a number, `@N` an enumerator, `[7/2x8` a list with repetition, and `F=3+G=4` values of fields, also in a list.
 
 use plc_text::{Boxed, Items, NoMemory, Text, number, split_field};
 use st_tree::{
     ClassDecl, ClassSort, Expr, FieldGroup, FieldInit, Init, InterfaceDecl, Item, Marks, Member,
-    Modifier, Name, Note, Part, Program, ProgramDecl, RegionDecl, Section, SectionSort, SimpleSpec,
-    Target, TypeBody, TypeDecl, TypeSpec, Used,
+    Method, Modifier, Name, Note, Part, Program, ProgramDecl, RegionDecl, Section, SectionSort,
+    SimpleSpec, Target, TypeBody, TypeDecl, TypeSpec, Used,
 };
 use st_types::{Elem, StType};
 use std::alloc::Global;
@@ -84,13 +85,30 @@ fn simple(word: &str) -> StType {
     elementary(word)
 }
 
-fn type_of(alloc: Global, text: &str) -> Result<StType, NoMemory> {
-    let Some((bounds, of)) = text.split_once('*') else {
+fn array(alloc: Global, bounds: &str, of: StType) -> Result<StType, NoMemory> {
+    let (low, high) = cut(bounds, '~');
+    let of = Boxed::new(alloc, of)?;
+    Ok(StType::Array(signed(low), signed(high), of))
+}
+
+pub fn type_of(alloc: Global, text: &str) -> Result<StType, NoMemory> {
+    let Some((arrays, of)) = text.rsplit_once('*') else {
         return Ok(simple(text));
     };
-    let (low, high) = cut(bounds, '~');
-    let of = Boxed::new(alloc, simple(of))?;
-    Ok(StType::Array(signed(low), signed(high), of))
+    let mut kind = simple(of);
+    let mut rest = arrays;
+    for _array in 0..8u32 {
+        if rest.is_empty() {
+            break;
+        }
+        let (before, bounds) = match rest.rsplit_once('*') {
+            Some(parts) => parts,
+            None => ("", rest),
+        };
+        kind = array(alloc, bounds, kind)?;
+        rest = before;
+    }
+    Ok(kind)
 }
 
 fn note(kind: StType, target: Target) -> Note {
@@ -297,15 +315,34 @@ fn sections(alloc: Global, text: &str) -> Result<Items<Section<Note>>, NoMemory>
     Ok(sections)
 }
 
+fn method(alloc: Global, text: &str) -> Result<Method<Note>, NoMemory> {
+    let name = name(alloc, text)?;
+    Ok(Method {
+        line: 1,
+        modifiers: Items::new(alloc),
+        name,
+        result: None,
+        sections: Items::new(alloc),
+        body: Items::new(alloc),
+    })
+}
+
+fn member(alloc: Global, text: &str) -> Result<Member<Note>, NoMemory> {
+    match text.strip_prefix("m ") {
+        Some(name) => Ok(Member::Method(method(alloc, name)?)),
+        None => Ok(Member::Section(section(alloc, text)?)),
+    }
+}
+
 fn members(alloc: Global, text: &str) -> Result<Items<Member<Note>>, NoMemory> {
     let mut members = Items::new(alloc);
     let mut rest = text;
-    for _section in 0..8u32 {
+    for _member in 0..8u32 {
         if rest.is_empty() {
             break;
         }
         let (first, behind) = cut(rest, '|');
-        members.push(Member::Section(section(alloc, first)?))?;
+        members.push(member(alloc, first)?)?;
         rest = behind;
     }
     Ok(members)

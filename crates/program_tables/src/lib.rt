@@ -9,8 +9,6 @@ mod parts;
 mod places;
 mod routine;
 mod tables;
-#[cfg(test)]
-mod tests;
 
 pub use routine::{RoutineId, line, method_at, name, statements};
 pub use tables::ProgramTables;

@@ -9,7 +9,8 @@
 //! behind it: `/.:i` a variable, `/[:f0` an element, `/^:b0` what is referred to, `/M:i` the method.
 //! Statements end with `,`: `return`, `= TO FROM`, `? TO FROM`, and `! CALLED` with its arguments, `1>TO` for the second parameter.
 
-use plc_text::{Boxed, Items, NoMemory, Text, number, split_field};
+use crate::programs::{count, cut};
+use plc_text::{Boxed, Items, NoMemory, Text, split_field};
 use st_tree::{
     Argument, ClassDecl, ClassSort, Expr, FunctionDecl, InterfaceDecl, Item, Marks, Member, Method,
     Name, Note, Place, Program, ProgramDecl, Prototype, RegionDecl, Root, Section, SectionSort,
@@ -17,18 +18,6 @@ use st_tree::{
 };
 use st_types::{Elem, StType};
 use std::alloc::Global;
-
-/// What stands before the character, and what behind it.
-fn cut(text: &str, at: char) -> (&str, &str) {
-    match text.split_once(at) {
-        Some(parts) => parts,
-        None => (text, ""),
-    }
-}
-
-fn count(word: &str) -> u32 {
-    number(word).unwrap_or(0)
-}
 
 fn int() -> StType {
     StType::Elementary(Elem::Int)
