@@ -53,13 +53,25 @@ fn parts_of(alloc: Global, decls: &[Decl<u32>]) -> Result<Parts, NoMemory>
 
 /// The classes of a unit, which contracts see as the unit. Classes and interfaces are told by their numbers, from 0 in the order of the
 /// text, function blocks among the classes. What a name means is decided on cycles of bases and interfaces too.
-#[derive(Drop)]
 pub struct ClassTables {
     of: SeenUnit,
     names: UnitNames,
     rows: UnitRows,
     settled: Settled,
     reach: Vec<Row>,
+}
+
+// By hand, so that a drop is one call: a derived one is written out wherever a `?` may need it.
+impl Drop for ClassTables {
+    fn drop(self) {
+        let ClassTables {
+            of: _,
+            names: _,
+            rows: _,
+            settled: _,
+            reach: _,
+        } = self;
+    }
 }
 
 impl Model for ClassTables {

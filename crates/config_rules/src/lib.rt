@@ -3,7 +3,5 @@
 
 mod settings;
 mod tasks;
-#[cfg(test)]
-mod tests;
 
 pub use tasks::tasks_and_instances;

@@ -60,8 +60,8 @@ fn constant_by(x: Checked, of_parts: Option<(Code, u32)>, value: Outcome) -> Con
     ensures tree { result.tree ≡ x.tree }
     ensures value { result.value ≡ value }
 {
-    let Checked { told, least, tree } = x;
-    let found = earlier(earlier(least, of_parts), divisor_fault(value));
+    let found = earlier(earlier(x.least, of_parts), divisor_fault(value));
+    let (told, _, tree) = x.into_parts();
     Constant {
         told,
         least: found,

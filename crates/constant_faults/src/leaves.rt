@@ -26,12 +26,8 @@ fn noted(x: Checked) -> Valued
     ensures told { result.told ≡ x.told }
     ensures value { outcome result.value ≡ noted_by (expression_of x.tree) }
 {
-    let Checked {
-        told,
-        least: _,
-        tree,
-    } = x;
-    let value = noted_value(&tree);
+    let value = noted_value(&x.tree);
+    let told = x.into_told();
     Valued { told, value }
 }
 

@@ -23,7 +23,7 @@ use Rattle.st_rules.specs.Literals.{number_asked, asked_of, holds, time_past_32_
 use Rattle.st_rules.specs.Scope.{Scope, type_qualifier}
 use Rattle.st_rules.specs.Places.{root_line, root_standing, too_many_selectors}
 use Rattle.st_rules.specs.Calls.{Callee, a_conversion, callee, is_on_super, heads, Matched, first_match, later_matches, asked_by, call_matches, call_type, call_without_result, callee_faults}
-use Rattle.st_rules.specs.Expressions.{line_of, is_int, is_untyped, front_asked, operand_asked, asked_behind, type_of, row_type, operands_unsuited, operand_unsuited, faults, row_faults, along_faults, argument_faults, given_unsuited, called_root_faults, typed, typed_row, typed_arguments, told, note, whole_target, note_of_value}
+use Rattle.st_rules.specs.Expressions.{line_of, is_int, is_untyped, front_asked, operand_asked, asked_behind, type_of, row_type, row_unsuited, operand_unsuited, faults, row_faults, along_faults, argument_faults, given_unsuited, called_root_faults, typed, typed_row, typed_arguments, told, note, whole_target, note_of_value}
 use Rattle.declared_names.specs.Constants.{Outcome, comes_to, cannot_be_told, operated, outcome_map, kind_in, literal_outcome, constant_value, row_value, operand_value, converted_value, conversion_asked, is_told, names_are_told, operands_are_told, arguments_are_told, no_constant_part, no_constant_operand, no_constant_argument}
 use Rattle.constant_values.specs.Noted.{noted_value, noted_row, noted_operand}
 use Rattle.constant_values.specs.ValueLaws.{ValuesHaveTypes, AsksForTold, ValueLaws}
@@ -110,14 +110,14 @@ module _ (s : Scope) where
 
     record Parts (u : Bool) (asked : Asked) (t : Option StType) : Type 0 where
       operand : faults s (operand_asked u (is_untyped e) asked t) e ≡ []
-      suits : operands_unsuited l o t (type_of s (operand_asked u (is_untyped e) asked t) e) ≡ []
+      suits : row_unsuited e l o t (type_of s (operand_asked u (is_untyped e) asked t) e) ≡ []
       rest : row_faults s (is_arithmetic o && u && is_untyped e) asked (operation_type o t (type_of s (operand_asked u (is_untyped e) asked t) e)) ts ≡ []
 
     parts : (u : Bool) (asked : Asked) (t : Option StType) → row_faults s u asked t (tail_then l o e ts) ≡ [] → Parts u asked t
     parts u asked t f =
         let inner = operand_asked u (is_untyped e) asked t in
         let a = faults s inner e in
-        let b = operands_unsuited l o t (type_of s inner e) in
+        let b = row_unsuited e l o t (type_of s inner e) in
         let c = row_faults s (is_arithmetic o && u && is_untyped e) asked (operation_type o t (type_of s inner e)) ts in
         let p = none-of (a ++ b) c f in
         let q = none-of a b p.0 in
@@ -141,7 +141,7 @@ module _ (s : Scope) where
       here : is_some (operation_type o t (type_of s (operand_asked u (is_untyped e) asked t) e)) ≡ true
       here =
           let p = parts u asked t f in
-          operation-told l o t (type_of s (operand_asked u (is_untyped e) asked t) e) g (k.kind (operand_asked u (is_untyped e) asked t) asks-inner p.operand) p.suits
+          operation-told _ o t (type_of s (operand_asked u (is_untyped e) asked t) e) g (k.kind (operand_asked u (is_untyped e) asked t) asks-inner p.operand) p.suits
 
     row-known : KnownRow (tail_then l o e ts)
     row-known = record {

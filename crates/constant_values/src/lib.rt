@@ -7,8 +7,6 @@ mod literals;
 mod noted;
 mod operations;
 mod outcome;
-#[cfg(test)]
-mod tests;
 
 pub use laws::value_laws;
 pub use literals::{duration_value, int_value, negative_value, typed_value};

@@ -67,13 +67,25 @@ pub fn is_marked(marks: &[bool], i: usize) -> bool
 
 /// What contains what among the declarations of a unit, and what needs what, which contracts see as the unit. Declarations are told by
 /// their places.
-#[derive(Drop)]
 pub struct DeclaredGraph {
     of: SeenUnit,
     types: Places,
     containing: Vec<bool>,
     leading: Vec<bool>,
     needing: Vec<bool>,
+}
+
+// By hand, so that a drop is one call: a derived one is written out wherever a `?` may need it.
+impl Drop for DeclaredGraph {
+    fn drop(self) {
+        let DeclaredGraph {
+            of: _,
+            types: _,
+            containing: _,
+            leading: _,
+            needing: _,
+        } = self;
+    }
 }
 
 impl Model for DeclaredGraph {

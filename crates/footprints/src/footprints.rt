@@ -21,9 +21,15 @@ use std::alloc::Global;
 use std::marker::Model;
 
 /// What tells the footprints of all tasks of a program, which contracts see as the program.
-#[derive(Drop)]
 pub struct Footprints<'p> {
     tables: Tables<'p>,
+}
+
+// By hand, so that a drop is one call: a derived one is written out wherever a `?` may need it.
+impl Drop for Footprints<'_> {
+    fn drop(self) {
+        let Footprints { tables: _ } = self;
+    }
 }
 
 impl<'p> Model for Footprints<'p> {

@@ -20,11 +20,21 @@ use std::marker::Model;
 
 /// The interfaces of a unit, with the tables of its classes, which contracts see as the unit. Classes and interfaces are told by their
 /// numbers, from 0 in the order of the text.
-#[derive(Drop)]
 pub struct IfaceTables {
     classes: ClassTables,
     prototypes: Items<Items<Text>>,
     declarers: Declarers,
+}
+
+// By hand, so that a drop is one call: a derived one is written out wherever a `?` may need it.
+impl Drop for IfaceTables {
+    fn drop(self) {
+        let IfaceTables {
+            classes: _,
+            prototypes: _,
+            declarers: _,
+        } = self;
+    }
 }
 
 impl Model for IfaceTables {

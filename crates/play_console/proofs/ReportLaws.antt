@@ -1,11 +1,11 @@
 -- What is said, as the code goes.
-use Rattle.std.proofs.Common.{◌≡◌, ℕ, List, Option, Some, None, sym, ap, ◌∙◌, subst}
-use Rattle.std.specs.List.{position_from}
+use Rattle.std.proofs.Common.{◌≡◌, ℕ, List, subst}
+use Rattle.std.specs.Map.{values_of}
 use Rattle.plc_text.specs.declared.denied.Denied.{Denied}
 use Rattle.plc_text.specs.declared.denied.Denied.TheVariants as denied
 use Rattle.plc_text.specs.declared.refusal.Refusal.{Refusal}
 use Rattle.cycle_journal.specs.declared.play.Play.{Play}
-use Rattle.scenario.specs.Reading.{is_change, OnBad}
+use Rattle.scenario.specs.Reading.{OnBad}
 use Rattle.scenario.specs.declared.scenario_error.ScenarioError.{ScenarioError}
 use Rattle.scenario.specs.declared.scenario_error.ScenarioError.TheVariants as bad
 use Rattle.st_values.specs.Program.{Program}
@@ -29,10 +29,8 @@ refused_so d r P e h = subst (λ (x : Denied). OnRefused x P) e h
 pub bad_so : (d : ScenarioError) (line : ℕ) (P : ℕ → Type 0) → d ≡ bad.Bad line → OnBad d P → P line
 bad_so d line P e h = subst (λ (x : ScenarioError). OnBad x P) e h
 
--- what was sought among the same plays
-pub sought_so : (plays given : List Play) (found : Option ℕ) → given ≡ plays → found ≡ position_from is_change 0 given → position_from is_change 0 plays ≡ found
-sought_so plays given found same e = sym (e ∙ ap (position_from is_change 0) same)
-
-pub run_so : (Accepts : List ℕ → Program → Type 0) (Refuses : List ℕ → Refusal → Type 0) (sources : List (List ℕ)) (text : List ℕ) (plays given : List Play) (v : Verdict) (out : List ℕ) → given ≡ plays
-    → ReportsRun Accepts Refuses sources text given v out → ReportsRun Accepts Refuses sources text plays v out
-run_so Accepts Refuses sources text plays given v out same h = subst (λ (ps : List Play). ReportsRun Accepts Refuses sources text ps v out) same h
+pub runs_so : (Accepts : List ℕ → Program → Type 0) (Refuses : List ℕ → Refusal → Type 0) (sources given : List (List ℕ × List ℕ)) (text : List ℕ) (plays handed : List Play) (v : Verdict) (out : List ℕ)
+    → given ≡ sources → handed ≡ plays → ReportsRun Accepts Refuses (values_of given) text handed v out → ReportsRun Accepts Refuses (values_of sources) text plays v out
+runs_so Accepts Refuses sources given text plays handed v out e f h =
+    subst (λ (x : List Play). ReportsRun Accepts Refuses (values_of sources) text x v out) f
+    (subst (λ (x : List (List ℕ × List ℕ)). ReportsRun Accepts Refuses (values_of x) text handed v out) e h)

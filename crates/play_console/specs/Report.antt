@@ -1,6 +1,5 @@
 -- What `play` writes.
-use Rattle.std.specs.Prelude.{◌≡◌, ℕ, ◌+◌, List, Some, None}
-use Rattle.std.specs.List.{position_from}
+use Rattle.std.specs.Prelude.{◌≡◌, ℕ, List}
 use Rattle.std.specs.Map.{values_of}
 use Rattle.plc_text.specs.Lines.{FirstBad}
 use Rattle.plc_text.specs.declared.refusal.Refusal.{Refusal}
@@ -8,7 +7,7 @@ use Rattle.cycle_journal.specs.Interleaving.{InOrder}
 use Rattle.cycle_journal.specs.Writing.{journal_text}
 use Rattle.cycle_journal.specs.declared.entry.Entry.{Entry}
 use Rattle.cycle_journal.specs.declared.play.Play.{Play}
-use Rattle.scenario.specs.Reading.{scenario_lines, IsScenario, CanBegin, NoScenario, is_change}
+use Rattle.scenario.specs.Reading.{scenario_lines, IsScenario, CanBegin, NoScenario}
 use Rattle.scenario.specs.Scenario.{Contents}
 use Rattle.st_values.specs.Program.{Program}
 use Rattle.st_change.specs.OneThread.{OneThread}
@@ -16,7 +15,6 @@ use Rattle.reference_journal.specs.Loading.{FirstRefused}
 use Rattle.console_command.specs.Reports.{script_text, refused_text}
 use Rattle.console_command.specs.declared.outcome.Verdict.{Verdict}
 use Rattle.console_command.specs.declared.outcome.Verdict.TheVariants as verdict
-use Rattle.play_console.specs.Lines.{line_of_play}
 
 -- What texts are accepted, as which program, and with what they are refused.
 module _ (Accepts : List ℕ → Program → Type 0) (Refuses : List ℕ → Refusal → Type 0) where
@@ -25,12 +23,7 @@ module _ (Accepts : List ℕ → Program → Type 0) (Refuses : List ℕ → Ref
     ran : (entries : List Entry) → OneThread Accepts Refuses sources text plays entries → InOrder plays entries → v ≡ verdict.Done → out ≡ journal_text plays entries → ReportsRun sources text plays v out
     refused : (r : Refusal) → FirstRefused Accepts Refuses text r → v ≡ verdict.Refused → out ≡ refused_text r → ReportsRun sources text plays v out
 
-  -- on a scenario: at its first change, or where it has none
-  pub data OnScenario (s : Contents) (v : Verdict) (out : List ℕ) : Type 0 where
-    has_change : (place : ℕ) → position_from is_change 0 s.plays ≡ Some place → v ≡ verdict.Script → out ≡ script_text (line_of_play s (place + 1)) → OnScenario s v out
-    no_change : position_from is_change 0 s.plays ≡ None → ReportsRun (values_of s.sources) s.program s.plays v out → OnScenario s v out
-
   -- on bytes: that they are no scenario, with the first line that cannot stand; or what is said on the scenario that they are
   pub data PlayReports (bytes : List ℕ) (v : Verdict) (out : List ℕ) : Type 0 where
     no_scenario : (line : ℕ) → NoScenario (scenario_lines bytes) → FirstBad CanBegin (scenario_lines bytes) line → v ≡ verdict.Script → out ≡ script_text line → PlayReports bytes v out
-    a_scenario : (s : Contents) → IsScenario (scenario_lines bytes) s → OnScenario s v out → PlayReports bytes v out
+    a_scenario : (s : Contents) → IsScenario (scenario_lines bytes) s → ReportsRun (values_of s.sources) s.program s.plays v out → PlayReports bytes v out

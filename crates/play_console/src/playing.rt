@@ -29,8 +29,7 @@ impl<J: Checker> Command for PlayCommand<J> {
 }
 
 /// What the command `play` does: it reads a scenario from the source, runs it on one thread, and writes the journal to the sink. It starts
-/// no thread and never waits, so it returns on every input. `J` judges the text of the first program. Until changes are built, a scenario
-/// with a change is answered as one that stops at the line of the first change.
+/// no thread and never waits, so it returns on every input. `J` judges the texts of the first program and of the sources that changes load.
 ///
 /// `ReadFault` and `Cut` have a failed read or write as their cause, which the source or the sink has counted. `NoMemory` may come
 /// wherever memory is taken. Where the source and the sink tell their bytes, the other outcomes are exact. Nothing bounds the machine's

@@ -1,37 +1,23 @@
 //! What `play` says on bytes.
 
-ghost use Rattle.std.specs.Prelude.{◌≡◌, ◌+◌, ◌≤◌, ℕ, List, length, IfOk};
+ghost use Rattle.std.specs.Prelude.{◌≡◌, ◌≤◌, ℕ, List, length, IfOk};
+ghost use Rattle.std.specs.Map.{values_of};
 ghost use Rattle.cycle_journal.specs.Writing.{journal_text as text_of_journal};
 ghost use Rattle.scenario.specs.Scenario.{contents_of};
 ghost use Rattle.st_values.specs.View.{program_of};
 ghost use Rattle.region_instances.specs.Instances.{RegionsUnfold};
 ghost use Rattle.console_command.specs.Outcome.{byte_limit};
-ghost use Rattle.console_command.specs.Reports.{script_text};
-ghost use Rattle.play_console.specs.Lines.{line_of_play};
-ghost use Rattle.play_console.specs.Report.{OnScenario, PlayReports, ReportsRun};
+ghost use Rattle.play_console.specs.Report.{PlayReports, ReportsRun};
 ghost use Rattle.play_console.specs.Private.Played.{Tells};
 
-use crate::lines::{first_change, play_line};
 use console_command::{Checker, Report, Verdict, refused_report, script_report};
 use cycle_journal::{Entry, Play, journal_text};
 use plc_text::{Denied, NoMemory, Text};
 use reference_journal::{Played, play_all};
 use scenario::{Scenario, ScenarioError, read_scenario};
+use st_names::Names;
 use st_tree::Program;
 use std::alloc::Global;
-
-/// The number of the play at a place, from 1.
-fn number_at(place: usize) -> Result<u32, NoMemory>
-    ensures { IfOk result (λ n. n ≡ place + 1) }
-{
-    let Some(number) = place.checked_add(1) else {
-        return Err(NoMemory);
-    };
-    match u32::try_from(number) {
-        Ok(n) => Ok(n),
-        Err(_) => Err(NoMemory),
-    }
-}
 
 /// The report of a run on one thread.
 fn journal_report(alloc: Global, plays: &[Play], entries: &[Entry]) -> Result<Report, NoMemory>
@@ -64,25 +50,31 @@ fn report_played(alloc: Global, plays: &[Play], played: &Played) -> Result<Repor
 /// The report on an accepted program and plays.
 fn report_accepted<J: Checker>(
     alloc: Global,
-    program: &Program,
+    program: Program,
+    sources: &Names<Text>,
     plays: &[Play],
 ) -> Result<Report, NoMemory>
-    requires { RegionsUnfold (program_of program.now) }
-    ensures { IfOk result (λ report. (text : List ℕ) (sources : List (List ℕ)) → J.accepts text (program_of program.now)
-        → ReportsRun J.accepts J.refuses sources text plays.now report.verdict report.text) }
+    requires { RegionsUnfold (program_of program) }
+    ensures { IfOk result (λ report. (text : List ℕ) → J.accepts text (program_of program)
+        → ReportsRun J.accepts J.refuses (values_of sources.now) text plays.now report.verdict report.text) }
 {
-    let played = play_all::<J>(alloc, program, plays)?;
+    let played = play_all::<J>(alloc, program, sources, plays)?;
     let report = report_played(alloc, plays, &played)?;
     Ok(report)
 }
 
-/// The report on the text of a first program and plays.
-fn report_first<J: Checker>(alloc: Global, text: &Text, plays: &[Play]) -> Result<Report, NoMemory>
-    ensures { IfOk result (λ report. (sources : List (List ℕ)) → ReportsRun J.accepts J.refuses sources text.now plays.now report.verdict report.text) }
+/// The report on the text of a first program, the sources that changes load, and plays.
+fn report_first<J: Checker>(
+    alloc: Global,
+    text: &Text,
+    sources: &Names<Text>,
+    plays: &[Play],
+) -> Result<Report, NoMemory>
+    ensures { IfOk result (λ report. ReportsRun J.accepts J.refuses (values_of sources.now) text.now plays.now report.verdict report.text) }
 {
     match J::check(alloc, text) {
         Ok(program) => {
-            let report = report_accepted::<J>(alloc, &program, plays)?;
+            let report = report_accepted::<J>(alloc, program, sources, plays)?;
             Ok(report)
         }
         Err(Denied::Refused(refusal)) => {
@@ -93,32 +85,17 @@ fn report_first<J: Checker>(alloc: Global, text: &Text, plays: &[Play]) -> Resul
     }
 }
 
-/// The report that a play is a change, by its place among the plays.
-fn report_change(alloc: Global, scenario: &Scenario, place: usize) -> Result<Report, NoMemory>
-    ensures verdict { IfOk result (λ report. report.verdict ≡ Verdict.Script) }
-    ensures text { IfOk result (λ report. report.text ≡ script_text (line_of_play (contents_of scenario.now) (place + 1))) }
-{
-    let number = number_at(place)?;
-    let line = play_line(scenario, number)?;
-    let report = script_report(alloc, line)?;
-    Ok(report)
-}
-
 /// The report on a scenario.
 fn report_scenario<J: Checker>(alloc: Global, scenario: &Scenario) -> Result<Report, NoMemory>
-    ensures { IfOk result (λ report. OnScenario J.accepts J.refuses (contents_of scenario.now) report.verdict report.text) }
+    ensures { IfOk result (λ report. ReportsRun J.accepts J.refuses (values_of (contents_of scenario.now).sources) (contents_of scenario.now).program (contents_of scenario.now).plays report.verdict report.text) }
 {
-    let plays = scenario.plays.as_slice();
-    match first_change(plays) {
-        Some(place) => {
-            let report = report_change(alloc, scenario, place)?;
-            Ok(report)
-        }
-        None => {
-            let report = report_first::<J>(alloc, &scenario.program, plays)?;
-            Ok(report)
-        }
-    }
+    let report = report_first::<J>(
+        alloc,
+        &scenario.program,
+        &scenario.sources,
+        scenario.plays.as_slice(),
+    )?;
+    Ok(report)
 }
 
 /// The report on the bytes of an input.

@@ -76,6 +76,3 @@ pub fn plc<R: Threads + Wait + Sync, S: Source, K: Sink, G: Gate + Sync>(
     };
     perform(alloc, order, src, out).status()
 }
-
-#[cfg(test)]
-mod tests;

@@ -1,2 +1,3 @@
+mod Consumed
 mod Pieces
 pub mod Told

@@ -17,10 +17,16 @@ use std::marker::Model;
 /// The tables of a program, which contracts see as the program. Classes are told by their numbers, from 0 in the order of the text,
 /// function blocks among them and programs behind them. What a name means is decided on cycles of bases too, which no program has
 /// that the checker accepted.
-#[derive(Drop)]
 pub struct ProgramTables {
     of: SeenProgram,
     tables: Tables,
+}
+
+// By hand, so that a drop is one call: a derived one is written out wherever a `?` may need it.
+impl Drop for ProgramTables {
+    fn drop(self) {
+        let ProgramTables { of: _, tables: _ } = self;
+    }
 }
 
 impl Model for ProgramTables {

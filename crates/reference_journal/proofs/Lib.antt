@@ -1,2 +1,3 @@
-pub mod RunLaws
+pub mod ChangeLaws
 pub mod LoadLaws
+pub mod RunLaws

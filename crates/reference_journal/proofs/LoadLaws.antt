@@ -8,7 +8,6 @@ use Rattle.st_values.specs.Program.{Program}
 use Rattle.st_values.specs.View.{program_of}
 use Rattle.st_initial.specs.Members as members
 use Rattle.st_frame.specs.Footprint.{IsFootprint}
-use Rattle.st_change.specs.Hook.{ran, stopped}
 use Rattle.st_change.specs.Change.{start}
 use Rattle.st_change.specs.OneThread.{hook_refusal}
 use Rattle.region_instances.specs.Instances.{RegionsUnfold}
@@ -21,7 +20,10 @@ use Rattle.reference_start.specs.declared.started.Started.{Started}
 use Rattle.reference_start.specs.declared.started.Started.TheVariants as came
 use Rattle.value_trees.specs.Value.{members_of}
 use Rattle.value_trees.specs.declared.value.Member.{Member}
-use Rattle.reference_journal.specs.Loading.{Loads}
+use Rattle.reference_journal.specs.Loading.{HookRefuses, Loads}
+use Rattle.reference_journal.specs.declared.loading.First.{First}
+use Rattle.reference_journal.specs.declared.loading.First.TheVariants as first
+use Rattle.reference_journal.specs.Private.First.{CameTo, StartsWith}
 use Rattle.reference_journal.specs.Private.Footprints.{AreFootprints}
 
 -- ---- footprints
@@ -66,14 +68,17 @@ exact_at p q t task regions same number is =
 pub is_loaded : (on : Loaded) → on.tables.now ≡ on.program.now → members.Holds (program_of on.program.now) on.members.now → Holds on.program.now on.routines.now → IsLoaded on
 is_loaded on tables members routines = record { tables = tables; members = members; routines = subst (λ (q : CheckedProgram). Holds q on.routines.now) (sym tables) routines }
 
-pub ran_so : (p : Program) (s : Started) (store : List Member) (ticks : ℕ) → s ≡ came.Ran store ticks → started s ≡ start p → ran (members_of store) ticks ≡ start p
-ran_so p s store ticks is e = sym (ap started is) ∙ e
+module _ (p : Program) (s : Started) (e : started s ≡ start p) where
+  pub came_loaded : (store : List Member) (ticks : ℕ) → s ≡ came.Ran store ticks → StartsWith p store
+  came_loaded store ticks is = record { ticks = ticks; started = sym (sym (ap started is) ∙ e) }
 
-pub stopped_so : (p : Program) (s : Started) (x : Stopped) → s ≡ came.Stopped x → started s ≡ start p → stopped x.class x.fault.kind x.fault.line ≡ start p
-stopped_so p s x is e = sym (ap started is) ∙ e
+  pub came_refused : (x : Stopped) (r : Refusal) → s ≡ came.Stopped x → r ≡ hook_refusal x.class x.fault.kind x.fault.line → HookRefuses p r
+  came_refused x r is so = record { class = x.class; kind = x.fault.kind; line = x.fault.line; stops = sym (sym (ap started is) ∙ e); refusal = so }
 
-pub loads_none : (p : Program) (s : Started) (store : List Member) (ticks : ℕ) → s ≡ came.Ran store ticks → started s ≡ start p → Loads p None
-loads_none p s store ticks is e = record { store = members_of store; ticks = ticks; started = sym (ran_so p s store ticks is e) }
+pub loads_by : (p : Program) (x : First) (store : List Member) → x ≡ first.Loaded store → CameTo p x → Loads p None
+loads_by p x store is h =
+    let starts : StartsWith p store = subst (λ (y : First). CameTo p y) is h in
+    record { store = members_of store; ticks = starts.ticks; started = starts.started }
 
-pub loads_some : (p : Program) (s : Started) (x : Stopped) (r : Refusal) → s ≡ came.Stopped x → started s ≡ start p → r ≡ hook_refusal x.class x.fault.kind x.fault.line → Loads p (Some r)
-loads_some p s x r is e so = record { class = x.class; kind = x.fault.kind; line = x.fault.line; stops = sym (stopped_so p s x is e); refusal = so }
+pub loads_refused : (p : Program) (x : First) (r : Refusal) → x ≡ first.Refused r → CameTo p x → Loads p (Some r)
+loads_refused p x r is h = subst (λ (y : First). CameTo p y) is h

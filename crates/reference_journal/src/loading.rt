@@ -5,11 +5,13 @@ ghost use Rattle.st_change.specs.OneThread as words;
 ghost use Rattle.st_values.specs.View.{program_of};
 ghost use Rattle.region_instances.specs.Instances.{RegionsUnfold};
 ghost use Rattle.reference_journal.specs.Loading.{Loads};
+ghost use Rattle.reference_journal.specs.Private.First.{CameTo};
 ghost use Rattle.reference_journal.specs.Private.Footprints.{AreFootprints};
 ghost use Rattle.reference_journal.specs.Private.Tables.{AreTables};
 
 use footprints::Footprints;
-use plc_text::{Code, NoMemory, Refusal};
+use plc_series::Series;
+use plc_text::{Code, Fault, NoMemory, Refusal, Text};
 use program_tables::ProgramTables;
 use reference_start::{Started, Stopped, start};
 use reference_tasks::Loaded;
@@ -17,6 +19,7 @@ use routine_tables::{RoutineTables, routine_tables};
 use st_initial::{Members, members_of};
 use st_tree::Program;
 use std::alloc::Global;
+use value_trees::Member;
 
 /// A number of 32 bits.
 pub fn narrowed(number: usize) -> Result<u32, NoMemory>
@@ -42,15 +45,15 @@ pub fn footprints_of(alloc: Global, program: &Program) -> Result<Vec<Vec<u32>>, 
     Ok(all)
 }
 
-/// The refusal by a hook that stopped at a fault.
-pub fn refusal_of(stopped: Stopped) -> Refusal
-    ensures { result ≡ words.hook_refusal stopped.class stopped.fault.kind stopped.fault.line }
+/// The refusal by a hook of a class that stopped at a fault.
+pub fn refusal_of(class: Text, fault: Fault) -> Refusal
+    ensures { result ≡ words.hook_refusal class fault.kind fault.line }
 {
     Refusal {
         code: Code::E17,
-        declaration: stopped.class,
-        line: stopped.fault.line,
-        kind: Some(stopped.fault.kind),
+        declaration: class,
+        line: fault.line,
+        kind: Some(fault.kind),
     }
 }
 
@@ -65,6 +68,15 @@ pub fn let_go(on: Loaded<'_>) {
     } = on;
 }
 
+/// What a first load came to.
+#[derive(Drop)]
+pub enum First {
+    /// The program is loaded, with this store.
+    Loaded(Series<Member>),
+    /// A hook stopped at a fault.
+    Refused(Refusal),
+}
+
 /// The first load of a program with its tables.
 fn load_by(
     alloc: Global,
@@ -72,9 +84,9 @@ fn load_by(
     tables: &ProgramTables,
     members: &Members<'_>,
     routines: &RoutineTables<'_>,
-) -> Result<Option<Refusal>, NoMemory>
+) -> Result<First, NoMemory>
     requires { AreTables program.now tables.now members.now routines.now }
-    ensures { IfOk result (λ refusal. RegionsUnfold (program_of tables.now) → Loads (program_of tables.now) refusal) }
+    ensures { IfOk result (λ came. RegionsUnfold (program_of program.now) → CameTo (program_of program.now) came) }
 {
     let on = Loaded {
         alloc,
@@ -86,9 +98,23 @@ fn load_by(
     let came = start(&on);
     let_go(on);
     match came? {
-        Started::Ran { .. } => Ok(None),
-        Started::Stopped(stopped) => Ok(Some(refusal_of(stopped))),
+        Started::Ran { store, .. } => Ok(First::Loaded(store)),
+        Started::Stopped(stopped) => {
+            let Stopped { class, fault } = stopped;
+            Ok(First::Refused(refusal_of(class, fault)))
+        }
     }
+}
+
+/// The store that the first load of a program leaves, or its refusal by a hook.
+pub fn first_store(alloc: Global, program: &Program) -> Result<First, NoMemory>
+    ensures { IfOk result (λ came. RegionsUnfold (program_of program.now) → CameTo (program_of program.now) came) }
+{
+    let tables = ProgramTables::build(alloc, program)?;
+    let members = members_of(alloc, program)?;
+    let routines = routine_tables(alloc, &tables, program)?;
+    let came = load_by(alloc, program, &tables, &members, &routines)?;
+    Ok(came)
 }
 
 /// Loads a program for the first time: there is a refusal exactly where a hook stops at a fault. The types of the regions are to unfold, as
@@ -96,9 +122,8 @@ fn load_by(
 pub fn load_first(alloc: Global, program: &Program) -> Result<Option<Refusal>, NoMemory>
     ensures { IfOk result (λ refusal. RegionsUnfold (program_of program.now) → Loads (program_of program.now) refusal) }
 {
-    let tables = ProgramTables::build(alloc, program)?;
-    let members = members_of(alloc, program)?;
-    let routines = routine_tables(alloc, &tables, program)?;
-    let refusal = load_by(alloc, program, &tables, &members, &routines)?;
-    Ok(refusal)
+    match first_store(alloc, program)? {
+        First::Loaded(_) => Ok(None),
+        First::Refused(refusal) => Ok(Some(refusal)),
+    }
 }

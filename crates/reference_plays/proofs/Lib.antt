@@ -1,2 +1,3 @@
+pub mod GoneLaws
 pub mod HeldLaws
 pub mod PlayLaws

@@ -4,3 +4,4 @@ pub mod CallSteps
 pub mod ListLaws
 pub mod LoopSteps
 pub mod PlaceLaws
+pub mod ArmLaws

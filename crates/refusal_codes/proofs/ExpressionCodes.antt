@@ -97,7 +97,7 @@ module _ (s : Scope) where
     row_faults_usual untyped asked t (tail_then l o e ts) =
         let inner = operand_asked untyped (is_untyped e) asked t in
         faults_usual inner e
-        also operands_unsuited_usual l o t (type_of s inner e)
+        also operands_unsuited_usual _ o t (type_of s inner e)
         also row_faults_usual (is_arithmetic o && untyped && is_untyped e) asked (operation_type o t (type_of s inner e)) ts
 
     index_faults_usual : (x : Expressions ℕ) → Usual (index_faults s x)

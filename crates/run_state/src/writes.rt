@@ -14,6 +14,13 @@ use std::alloc::Global;
 use std::mem;
 use value_trees::{Member, Value, copy_path, exchange_at};
 
+/// Puts a slot in the place of one that was only held there.
+fn put_back(slot: &mut Slot, held: Slot)
+    ensures { slot.new ≡ held }
+{
+    *slot = held;
+}
+
 fn put_in_slot(slot: &mut Slot, steps: &[Step], new: Value) -> bool
     ensures { SlotPut result (slot_of slot.old) steps.now (value_of new) (slot_of slot.new) }
 {
@@ -23,11 +30,11 @@ fn put_in_slot(slot: &mut Slot, steps: &[Step], new: Value) -> bool
                 Ok(_) => true,
                 Err(_) => false,
             };
-            *slot = Slot::Holds(v);
+            put_back(slot, Slot::Holds(v));
             done
         }
         Slot::Bound(spot) => {
-            *slot = Slot::Bound(spot);
+            put_back(slot, Slot::Bound(spot));
             false
         }
         Slot::Unbound => false,

@@ -9,7 +9,9 @@ use Rattle.st_tree.specs.declared.expression.Selector.{Selector as CodeSelector}
 use Rattle.st_tree.specs.declared.program.Note.{Note}
 use Rattle.st_tree.specs.declared.program.Target.TheVariants.{Nothing}
 use Rattle.st_tree.specs.Expression.{Expression, Selectors, Arguments, expression_of, selectors_of, arguments_of, place_of, place_of-is}
-use Rattle.st_tree.specs.Statement.{Assign, Attempt, Call, statement_of}
+use Rattle.st_tree.specs.declared.expression.Expr.{Expr}
+use Rattle.st_tree.specs.declared.statement.Stmt.TheVariants as code
+use Rattle.st_tree.specs.Statement.{Assign, Attempt, Call, statement_of, statement_of-Assign, statement_of-Attempt, statement_of-Call}
 use Rattle.st_rules.specs.declared.asked.Asked.{Asked}
 use Rattle.st_rules.specs.declared.asked.Asked.TheVariants.{Anything}
 use Rattle.st_rules.specs.Faults.{Faults, least, earlier}
@@ -129,3 +131,14 @@ call_arm c s in_loop l k p zs xs call x found list line n a b d u v w y q is f h
           ∙ ap (λ (e : Arguments Note). Call l (note k (call_type (callee s r ss)) Nothing) (typed_root s true r ss) (typed_along s true (root_standing s r ss) ss) e)
           (args.tree ∙ ap (λ us. typed_arguments s us xs) is.matches ∙ typed_used s ms xs);
     })
+
+-- ---- statements, from what their parts are taken from
+
+pub assign_of : (l : ℕ) (n : Note) (p q : CodePlace Note) (e d : Expr Note) → p ≡ q → e ≡ d → statement_of (code.Assign l n p e) ≡ Assign l n (place_of q).0 (place_of q).1 (expression_of d)
+assign_of l n p q e d h k = ap (λ y. statement_of (code.Assign l n y e)) h ∙ ap (λ y. statement_of (code.Assign l n q y)) k ∙ statement_of-Assign l n q d
+
+pub attempt_of : (l : ℕ) (n : Note) (p q : CodePlace Note) (e d : Expr Note) → p ≡ q → e ≡ d → statement_of (code.Attempt l n p e) ≡ Attempt l n (place_of q).0 (place_of q).1 (expression_of d)
+attempt_of l n p q e d h k = ap (λ y. statement_of (code.Attempt l n y e)) h ∙ ap (λ y. statement_of (code.Attempt l n q y)) k ∙ statement_of-Attempt l n q d
+
+pub call_of : (l : ℕ) (n : Note) (p q : CodePlace Note) (xs : List (CodeArgument Note)) → p ≡ q → statement_of (code.Call l n p xs) ≡ Call l n (place_of q).0 (place_of q).1 (arguments_of xs)
+call_of l n p q xs h = ap (λ y. statement_of (code.Call l n y xs)) h ∙ statement_of-Call l n q xs

@@ -1,7 +1,8 @@
 -- Ends of labels that are literals.
 use Rattle.std.proofs.Common.{◌≡◌, ℕ, Bool, true, false, List, Option, None, refl, sym, ap, ◌∙◌, subst}
-use Rattle.std.specs.Prelude.{nat_lt, pos, neg_ℤ}
+use Rattle.std.specs.Prelude.{nat_lt, pos, neg_ℤ, Result, IfOk}
 use Rattle.plc_text.specs.declared.code.Code.{Code}
+use Rattle.plc_text.specs.declared.memory.NoMemory.{NoMemory}
 use Rattle.st_types.specs.declared.elem.Elem.{Elem}
 use Rattle.st_types.specs.declared.st_type.StType.{StType}
 use Rattle.st_tree.specs.declared.expression.Literal.{Literal}
@@ -56,5 +57,6 @@ suited c x s asked e line own f h o l k = record {
   tree = λ n. k ∙ f.tree (none_before x.least own (sym l ∙ n));
 }
 
-pub end_seen : (c : CheckedEnd) (s : Scope) (asked : Asked) (x y : LabelEnd ℕ) → x ≡ y → EndIs c s asked y → EndIs c s asked x
-end_seen c s asked x y h f = subst (λ (z : LabelEnd ℕ). EndIs c s asked z) (sym h) f
+-- an end as the code holds it
+pub all_ends_seen : (r : Result CheckedEnd NoMemory) (s : Scope) (asked : Asked) (x y : LabelEnd ℕ) → x ≡ y → IfOk r (λ c. EndIs c s asked y) → IfOk r (λ c. EndIs c s asked x)
+all_ends_seen r s asked x y h f = subst (λ (z : LabelEnd ℕ). IfOk r (λ c. EndIs c s asked z)) (sym h) f

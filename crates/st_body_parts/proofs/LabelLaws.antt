@@ -18,6 +18,12 @@ use Rattle.st_body_parts.proofs.Parts.{joined, none_before, none_behind}
 abbrev label_of : LabelEnd Note → Option (LabelEnd Note) → Label Note
 label_of a b = record { first = a; last = b }
 
+pub range_of : (a x b y : LabelEnd Note) → a ≡ x → b ≡ y → label_of a (Some b) ≡ label_of x (Some y)
+range_of a x b y h k = ap (λ z. label_of z (Some b)) h ∙ ap (λ z. label_of x (Some z)) k
+
+pub single_of : (a x : LabelEnd Note) → a ≡ x → label_of a None ≡ label_of x None
+single_of a x h = ap (λ z. label_of z None) h
+
 pub range_arm : (c : CheckedLabel) (s : Scope) (asked : Asked) (x : Label ℕ) (e : LabelEnd ℕ) (a b : CheckedEnd) → EndFinds a s asked x.first → x.last ≡ Some e → EndFinds b s asked e → c.least ≡ earlier a.least b.least → c.label ≡ label_of a.end (Some b.end) → LabelFinds c s asked x
 range_arm c s asked x e a b f is g h k = record {
   broken = joined c.least a.least b.least (label_end_faults s asked x.first) (last_end_faults s asked x.last) h f.broken (g.broken ∙ ap (λ o. least (last_end_faults s asked o)) (sym is));

@@ -27,16 +27,14 @@ use std::alloc::Global;
 fn check_target(alloc: Global, s: &Scope<'_>, place: &Place<u32>) -> Result<CheckedPlace, NoMemory>
     ensures { IfOk result (λ x. TargetFinds x s.now (place_of place.now).0 (place_of place.now).1) }
 {
-    let x = check_place(alloc, s, place, false)?;
+    let mut x = check_place(alloc, s, place, false)?;
     let root = &place.root;
     let selectors = place.selectors.as_slice();
     let whole = earlier(x.least, whole_fault(s, root, selectors));
     let limited = earlier(whole, selectors_limit(selectors));
     let found = earlier(limited, target_fault(s, root, selectors));
-    Ok(CheckedPlace {
-        least: found,
-        place: x.place,
-    })
+    x.least = found;
+    Ok(x)
 }
 
 /// Checks `place := value`, with the lines of the statement and of the place.
@@ -58,11 +56,10 @@ pub fn check_assign(
     let found = earlier(target.least, x.least);
     Ok(CheckedStatement {
         least: found,
-        statement: Stmt::Assign(line, note, target.place, x.tree),
+        statement: Stmt::Assign(line, note, target.into_place(), x.into_tree()),
     })
 }
 
-#[tactic(auto, using(st_tree::specs::Expression::expression_views))]
 fn is_null(e: &Expr<u32>) -> bool
     ensures { result ≡ statements.is_null (expression_of e.now) }
 {
@@ -140,7 +137,7 @@ pub fn check_attempt(
     let found = earlier(on_both, of_value);
     Ok(CheckedStatement {
         least: found,
-        statement: Stmt::Attempt(line, note, target.place, x.tree),
+        statement: Stmt::Attempt(line, note, target.into_place(), x.into_tree()),
     })
 }
 
@@ -170,7 +167,7 @@ pub fn check_call(
         statement: Stmt::Call(
             line,
             note(call_line, call.told, Target::Nothing),
-            x.place,
+            x.into_place(),
             xs.arguments,
         ),
     })

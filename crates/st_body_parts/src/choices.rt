@@ -25,8 +25,7 @@ pub fn check_condition(alloc: Global, s: &Scope<'_>, e: &Expr<u32>) -> Result<Ch
     ensures { IfOk result (λ c. Finds c (expressions.type_of s.now (Wanted kinds.boolean) (expression_of e.now)) (statements.condition_faults s.now (expression_of e.now)) (expressions.typed s.now (Wanted kinds.boolean) (expression_of e.now))) }
 {
     let asked = Asked::Wanted(StType::Elementary(Elem::Bool));
-    let c = check_whole(alloc, s, e, &asked)?;
-    Ok(c)
+    check_whole(alloc, s, e, &asked)
 }
 
 fn selects(t: &StType) -> bool
@@ -54,14 +53,10 @@ fn selector_fault(line: u32, t: &Option<StType>) -> Option<(Code, u32)>
 pub fn check_choice(alloc: Global, s: &Scope<'_>, e: &Expr<u32>) -> Result<Checked, NoMemory>
     ensures { IfOk result (λ c. Finds c (expressions.type_of s.now Anything (expression_of e.now)) (statements.case_selector_faults s.now (expression_of e.now)) (expressions.typed s.now Anything (expression_of e.now))) }
 {
-    let Checked { told, least, tree } = check_whole(alloc, s, e, &Asked::Anything)?;
-    let own = selector_fault(line_of(e), &told);
-    let found = earlier(least, own);
-    Ok(Checked {
-        told,
-        least: found,
-        tree,
-    })
+    let mut x = check_whole(alloc, s, e, &Asked::Anything)?;
+    let own = selector_fault(line_of(e), &x.told);
+    x.least = earlier(x.least, own);
+    Ok(x)
 }
 
 /// What the labels of a CASE are asked for, which selects by this.

@@ -158,7 +158,7 @@ fn check_step(
             let x = check_whole(alloc, s, e, asked)?;
             Ok(CheckedStep {
                 least: x.least,
-                step: Some(x.tree),
+                step: Some(x.into_tree()),
             })
         }
         None => Ok(CheckedStep {
@@ -195,8 +195,8 @@ pub fn check_control(
     Ok(CheckedControl {
         least: found,
         note: own_note,
-        from: first.tree,
-        to: last.tree,
-        by: step.step,
+        from: first.into_tree(),
+        to: last.into_tree(),
+        by: step.into_step(),
     })
 }

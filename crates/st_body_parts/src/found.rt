@@ -1,14 +1,36 @@
 //! What is found out about statements and their parts. A typed tree counts where no rule is broken.
 
-use plc_text::{Code, Items};
+ghost use Rattle.std.specs.Prelude.{◌≡◌};
+ghost use Rattle.st_tree.specs.declared.statement.Stmt.TheVariants as statement;
+
+use plc_text::{Code, Items, Text};
 use st_tree::{Branch, Case, Expr, Label, LabelEnd, Note, Otherwise, Stmt};
 use st_types::StType;
 
 /// A statement: the least rule that it breaks, and its typed tree.
-#[derive(Drop)]
 pub struct CheckedStatement {
     pub least: Option<(Code, u32)>,
     pub statement: Stmt<Note>,
+}
+
+// By hand, so that a drop is one call: a derived one is written out wherever a `?` may need it.
+impl Drop for CheckedStatement {
+    fn drop(self) {
+        drop(self.into_statement());
+    }
+}
+
+impl CheckedStatement {
+    /// The typed tree alone.
+    pub fn into_statement(self) -> Stmt<Note>
+        ensures { result ≡ self.statement }
+    {
+        let CheckedStatement {
+            least: _,
+            statement,
+        } = self;
+        statement
+    }
 }
 
 /// Statements in a row.
@@ -19,10 +41,25 @@ pub struct CheckedStatements {
 }
 
 /// A branch of an IF.
-#[derive(Drop)]
 pub struct CheckedBranch {
     pub least: Option<(Code, u32)>,
     pub branch: Branch<Note>,
+}
+
+impl Drop for CheckedBranch {
+    fn drop(self) {
+        drop(self.into_branch());
+    }
+}
+
+impl CheckedBranch {
+    /// The typed tree alone.
+    pub fn into_branch(self) -> Branch<Note>
+        ensures { result ≡ self.branch }
+    {
+        let CheckedBranch { least: _, branch } = self;
+        branch
+    }
 }
 
 /// The branches of an IF.
@@ -33,10 +70,25 @@ pub struct CheckedBranches {
 }
 
 /// A case of a CASE.
-#[derive(Drop)]
 pub struct CheckedCase {
     pub least: Option<(Code, u32)>,
     pub case: Case<Note>,
+}
+
+impl Drop for CheckedCase {
+    fn drop(self) {
+        drop(self.into_case());
+    }
+}
+
+impl CheckedCase {
+    /// The typed tree alone.
+    pub fn into_case(self) -> Case<Note>
+        ensures { result ≡ self.case }
+    {
+        let CheckedCase { least: _, case } = self;
+        case
+    }
 }
 
 /// The cases of a CASE.
@@ -54,18 +106,59 @@ pub struct CheckedOtherwise {
 }
 
 /// An end of a label, with its type.
-#[derive(Drop)]
 pub struct CheckedEnd {
     pub told: Option<StType>,
     pub least: Option<(Code, u32)>,
     pub end: LabelEnd<Note>,
 }
 
+impl Drop for CheckedEnd {
+    fn drop(self) {
+        let CheckedEnd {
+            told,
+            least: _,
+            end,
+        } = self;
+        drop(told);
+        drop(end);
+    }
+}
+
+impl CheckedEnd {
+    /// The typed tree alone.
+    pub fn into_end(self) -> LabelEnd<Note>
+        ensures { result ≡ self.end }
+    {
+        let CheckedEnd {
+            told,
+            least: _,
+            end,
+        } = self;
+        drop(told);
+        end
+    }
+}
+
 /// A label of a CASE.
-#[derive(Drop)]
 pub struct CheckedLabel {
     pub least: Option<(Code, u32)>,
     pub label: Label<Note>,
+}
+
+impl Drop for CheckedLabel {
+    fn drop(self) {
+        drop(self.into_label());
+    }
+}
+
+impl CheckedLabel {
+    /// The typed tree alone.
+    pub fn into_label(self) -> Label<Note>
+        ensures { result ≡ self.label }
+    {
+        let CheckedLabel { least: _, label } = self;
+        label
+    }
 }
 
 /// The labels of a case.
@@ -76,18 +169,64 @@ pub struct CheckedLabels {
 }
 
 /// The step of a FOR, where there is one.
-#[derive(Drop)]
 pub struct CheckedStep {
     pub least: Option<(Code, u32)>,
     pub step: Option<Expr<Note>>,
 }
 
+impl Drop for CheckedStep {
+    fn drop(self) {
+        drop(self.into_step());
+    }
+}
+
+impl CheckedStep {
+    /// The typed tree alone, where there is a step.
+    pub fn into_step(self) -> Option<Expr<Note>>
+        ensures { result ≡ self.step }
+    {
+        let CheckedStep { least: _, step } = self;
+        step
+    }
+}
+
 /// What stands before DO in a FOR: the note of the variable, its first and its last value, and the step.
-#[derive(Drop)]
 pub struct CheckedControl {
     pub least: Option<(Code, u32)>,
     pub note: Note,
     pub from: Expr<Note>,
     pub to: Expr<Note>,
     pub by: Option<Expr<Note>>,
+}
+
+impl Drop for CheckedControl {
+    fn drop(self) {
+        let CheckedControl {
+            least: _,
+            note,
+            from,
+            to,
+            by,
+        } = self;
+        drop(note);
+        drop(from);
+        drop(to);
+        drop(by);
+    }
+}
+
+impl CheckedControl {
+    /// A FOR over this body, whose first word stands at this line.
+    pub fn into_statement(self, line: u32, name: Text, body: Items<Stmt<Note>>) -> Stmt<Note>
+        ensures { result ≡ statement.For line self.note name self.from self.to self.by body }
+    {
+        let CheckedControl {
+            least: _,
+            note,
+            from,
+            to,
+            by,
+        } = self;
+        Stmt::For(line, note, name, from, to, by, body)
+    }
 }

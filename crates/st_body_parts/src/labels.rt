@@ -317,30 +317,16 @@ fn check_end(
     ensures { IfOk result (λ c. EndIs c s.now asked.now x.now) }
 {
     match x {
-        LabelEnd::Int(line, digits) => {
-            let c = check_int(alloc, *line, digits, asked)?;
-            Ok(c)
-        }
-        LabelEnd::Negative(line, digits) => {
-            let c = check_negative(alloc, *line, digits, asked)?;
-            Ok(c)
-        }
-        LabelEnd::Typed(line, kind, literal) => {
-            let c = check_literal(alloc, *line, *kind, literal)?;
-            Ok(c)
-        }
-        LabelEnd::Name(line, name) => {
-            let c = check_name(alloc, s, *line, name)?;
-            Ok(c)
-        }
-        LabelEnd::Enumerator(line, type_name, name_line, name) => {
-            let c = check_value(alloc, s, *line, type_name, *name_line, name)?;
-            Ok(c)
-        }
-        LabelEnd::Field(line, type_name, name_line, name) => {
-            let c = check_field(alloc, s, *line, type_name, *name_line, name)?;
-            Ok(c)
-        }
+        LabelEnd::Int(line, digits) => check_int(alloc, *line, digits, asked),
+        LabelEnd::Negative(line, digits) => check_negative(alloc, *line, digits, asked),
+        LabelEnd::Typed(line, kind, literal) => check_literal(alloc, *line, *kind, literal),
+        LabelEnd::Name(line, name) => check_name(alloc, s, *line, name),
+        LabelEnd::Enumerator(line, type_name, name_line, name) => check_value(
+            alloc, s, *line, type_name, *name_line, name,
+        ),
+        LabelEnd::Field(line, type_name, name_line, name) => check_field(
+            alloc, s, *line, type_name, *name_line, name,
+        ),
     }
 }
 
@@ -353,15 +339,11 @@ fn check_suited(
 ) -> Result<CheckedEnd, NoMemory>
     ensures { IfOk result (λ c. EndFinds c s.now asked.now x.now) }
 {
-    let one = check_end(alloc, s, asked, x)?;
-    let CheckedEnd { told, least, end } = one;
-    let own = value_fault(s, end_line(x), asked, &told);
-    let found = earlier(least, own);
-    Ok(CheckedEnd {
-        told,
-        least: found,
-        end,
-    })
+    let mut one = check_end(alloc, s, asked, x)?;
+    let own = value_fault(s, end_line(x), asked, &one.told);
+    let found = earlier(one.least, own);
+    one.least = found;
+    Ok(one)
 }
 
 /// Checks a label.
@@ -381,15 +363,15 @@ fn check_label(
             Ok(CheckedLabel {
                 least: found,
                 label: Label {
-                    first: first.end,
-                    last: Some(last.end),
+                    first: first.into_end(),
+                    last: Some(last.into_end()),
                 },
             })
         }
         None => Ok(CheckedLabel {
             least: first.least,
             label: Label {
-                first: first.end,
+                first: first.into_end(),
                 last: None,
             },
         }),

@@ -21,7 +21,6 @@ fn indices_limit(indices: &[Expr<u32>]) -> Option<(Code, u32)>
     found
 }
 
-#[tactic(auto, using(st_tree::specs::Expression::expression_views))]
 fn selector_limit(selector: &Selector<u32>) -> Option<(Code, u32)>
     ensures { result ≡ least (own.one_selector_limit (selector_of selector.now)) }
 {
@@ -43,7 +42,6 @@ pub fn selectors_limit(selectors: &[Selector<u32>]) -> Option<(Code, u32)>
     found
 }
 
-#[tactic(auto, using(st_tree::specs::Expression::expression_views))]
 fn argument_limit(argument: &Argument<u32>) -> Option<(Code, u32)>
     ensures { result ≡ least (own.one_argument_limit (argument_of argument.now)) }
 {

@@ -17,7 +17,7 @@ use st_tree::{Branch, Case, Otherwise, Stmt};
 use std::alloc::Global;
 
 /// A lone `;`.
-#[tactic(auto, using(st_tree::specs::Statement::statement_views))]
+#[tactic(auto, using(crate::proofs::Views::empty_view))]
 pub fn empty_of(line: u32) -> CheckedStatement
     ensures { (s : AScope) (in_loop : Bool) → StatementFinds result s in_loop (plain.Empty line) }
 {
@@ -28,7 +28,7 @@ pub fn empty_of(line: u32) -> CheckedStatement
 }
 
 /// EXIT, in a loop or not.
-#[tactic(auto, using(st_tree::specs::Statement::statement_views))]
+#[tactic(auto, using(crate::proofs::Views::exit_view))]
 pub fn exit_of(line: u32, in_loop: bool) -> CheckedStatement
     ensures { (s : AScope) → StatementFinds result s in_loop (plain.Exit line) }
 {
@@ -39,7 +39,7 @@ pub fn exit_of(line: u32, in_loop: bool) -> CheckedStatement
 }
 
 /// CONTINUE, in a loop or not.
-#[tactic(auto, using(st_tree::specs::Statement::statement_views))]
+#[tactic(auto, using(crate::proofs::Views::continue_view))]
 pub fn continue_of(line: u32, in_loop: bool) -> CheckedStatement
     ensures { (s : AScope) → StatementFinds result s in_loop (plain.Continue line) }
 {
@@ -50,7 +50,7 @@ pub fn continue_of(line: u32, in_loop: bool) -> CheckedStatement
 }
 
 /// RETURN.
-#[tactic(auto, using(st_tree::specs::Statement::statement_views))]
+#[tactic(auto, using(crate::proofs::Views::return_view))]
 pub fn return_of(line: u32) -> CheckedStatement
     ensures { (s : AScope) (in_loop : Bool) → StatementFinds result s in_loop (plain.Return line) }
 {
@@ -61,7 +61,7 @@ pub fn return_of(line: u32) -> CheckedStatement
 }
 
 /// No ELSE.
-#[tactic(auto, using(st_tree::specs::Statement::statement_views))]
+#[tactic(auto, using(crate::proofs::Views::nothing_view))]
 pub fn no_else() -> CheckedOtherwise
     ensures { (s : AScope) (in_loop : Bool) → OtherwiseFinds result s in_loop plain.Nothing }
 {
@@ -72,7 +72,7 @@ pub fn no_else() -> CheckedOtherwise
 }
 
 /// An IF.
-#[tactic(auto, using(st_tree::specs::Statement::statement_views))]
+#[tactic(auto, using(crate::proofs::Views::if_view))]
 pub fn if_of(line: u32, bs: CheckedBranches, o: CheckedOtherwise) -> CheckedStatement
     ensures { IsIf result line bs o }
 {
@@ -83,7 +83,7 @@ pub fn if_of(line: u32, bs: CheckedBranches, o: CheckedOtherwise) -> CheckedStat
 }
 
 /// A CASE.
-#[tactic(auto, using(st_tree::specs::Statement::statement_views))]
+#[tactic(auto, using(crate::proofs::Views::case_view))]
 pub fn case_of(
     line: u32,
     choice: Checked,
@@ -94,12 +94,12 @@ pub fn case_of(
 {
     CheckedStatement {
         least: earlier(earlier(choice.least, cs.least), o.least),
-        statement: Stmt::Case(line, choice.tree, cs.cases, o.otherwise),
+        statement: Stmt::Case(line, choice.into_tree(), cs.cases, o.otherwise),
     }
 }
 
 /// A FOR.
-#[tactic(auto, using(st_tree::specs::Statement::statement_views))]
+#[tactic(auto, using(crate::proofs::Views::for_view))]
 pub fn for_of(
     alloc: Global,
     line: u32,
@@ -110,57 +110,50 @@ pub fn for_of(
     ensures { IfOk result (λ c. IsFor c line name.now control body) }
 {
     let name = Text::copy(alloc, name.as_str())?;
-    let CheckedControl {
-        least,
-        note,
-        from,
-        to,
-        by,
-    } = control;
     Ok(CheckedStatement {
-        least: earlier(least, body.least),
-        statement: Stmt::For(line, note, name, from, to, by, body.statements),
+        least: earlier(control.least, body.least),
+        statement: control.into_statement(line, name, body.statements),
     })
 }
 
 /// A WHILE.
-#[tactic(auto, using(st_tree::specs::Statement::statement_views))]
+#[tactic(auto, using(crate::proofs::Views::while_view))]
 pub fn while_of(line: u32, e: Checked, body: CheckedStatements) -> CheckedStatement
     ensures { IsWhile result line e body }
 {
     CheckedStatement {
         least: earlier(e.least, body.least),
-        statement: Stmt::While(line, e.tree, body.statements),
+        statement: Stmt::While(line, e.into_tree(), body.statements),
     }
 }
 
 /// A REPEAT.
-#[tactic(auto, using(st_tree::specs::Statement::statement_views))]
+#[tactic(auto, using(crate::proofs::Views::repeat_view))]
 pub fn repeat_of(line: u32, body: CheckedStatements, e: Checked) -> CheckedStatement
     ensures { IsRepeat result line body e }
 {
     CheckedStatement {
         least: earlier(body.least, e.least),
-        statement: Stmt::Repeat(line, body.statements, e.tree),
+        statement: Stmt::Repeat(line, body.statements, e.into_tree()),
     }
 }
 
 /// A branch of an IF.
-#[tactic(auto, using(crate::proofs::Views::branch_views))]
+#[tactic(auto, using(crate::proofs::Views::branch_view))]
 pub fn branch_of(e: Checked, body: CheckedStatements) -> CheckedBranch
     ensures { IsBranch result e body }
 {
     CheckedBranch {
         least: earlier(e.least, body.least),
         branch: Branch {
-            condition: e.tree,
+            condition: e.into_tree(),
             body: body.statements,
         },
     }
 }
 
 /// A case of a CASE.
-#[tactic(auto, using(crate::proofs::Views::branch_views))]
+#[tactic(auto, using(crate::proofs::Views::case_branch_view))]
 pub fn case_branch_of(ls: CheckedLabels, body: CheckedStatements) -> CheckedCase
     ensures { IsCaseBranch result ls body }
 {
@@ -174,7 +167,7 @@ pub fn case_branch_of(ls: CheckedLabels, body: CheckedStatements) -> CheckedCase
 }
 
 /// What stands behind ELSE.
-#[tactic(auto, using(st_tree::specs::Statement::statement_views))]
+#[tactic(auto, using(crate::proofs::Views::else_view))]
 pub fn else_of(body: CheckedStatements) -> CheckedOtherwise
     ensures { IsElse result body }
 {
@@ -205,11 +198,9 @@ pub fn with_statement(
         least,
         mut statements,
     } = so_far;
-    statements.push(one.statement)?;
-    Ok(CheckedStatements {
-        least: earlier(least, one.least),
-        statements,
-    })
+    let least = earlier(least, one.least);
+    statements.push(one.into_statement())?;
+    Ok(CheckedStatements { least, statements })
 }
 
 /// No branches yet.
@@ -230,11 +221,9 @@ pub fn with_branch(so_far: CheckedBranches, one: CheckedBranch) -> Result<Checke
         least,
         mut branches,
     } = so_far;
-    branches.push(one.branch)?;
-    Ok(CheckedBranches {
-        least: earlier(least, one.least),
-        branches,
-    })
+    let least = earlier(least, one.least);
+    branches.push(one.into_branch())?;
+    Ok(CheckedBranches { least, branches })
 }
 
 /// No cases yet.
@@ -252,11 +241,9 @@ pub fn with_case(so_far: CheckedCases, one: CheckedCase) -> Result<CheckedCases,
     ensures { IfOk result (λ x. AddsCase x so_far one) }
 {
     let CheckedCases { least, mut cases } = so_far;
-    cases.push(one.case)?;
-    Ok(CheckedCases {
-        least: earlier(least, one.least),
-        cases,
-    })
+    let least = earlier(least, one.least);
+    cases.push(one.into_case())?;
+    Ok(CheckedCases { least, cases })
 }
 
 /// No labels yet.
@@ -274,9 +261,7 @@ pub fn with_label(so_far: CheckedLabels, one: CheckedLabel) -> Result<CheckedLab
     ensures { IfOk result (λ x. AddsLabel x so_far one) }
 {
     let CheckedLabels { least, mut labels } = so_far;
-    labels.push(one.label)?;
-    Ok(CheckedLabels {
-        least: earlier(least, one.least),
-        labels,
-    })
+    let least = earlier(least, one.least);
+    labels.push(one.into_label())?;
+    Ok(CheckedLabels { least, labels })
 }

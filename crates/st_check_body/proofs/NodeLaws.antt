@@ -1,6 +1,7 @@
 -- Statements with statements in them, from what their parts are found to be.
 use Rattle.std.proofs.Common.{◌≡◌, ℕ, Bool, true, false, List, ◌++◌, Option, None, refl, sym, ap, ◌∙◌, subst}
-use Rattle.std.specs.Prelude.{option_map}
+use Rattle.std.specs.Prelude.{option_map, Result, IfOk}
+use Rattle.plc_text.specs.declared.memory.NoMemory.{NoMemory}
 use Rattle.st_tree.specs.declared.expression.Argument.{Argument as CodeArgument}
 use Rattle.st_tree.specs.declared.expression.Expr.{Expr}
 use Rattle.st_tree.specs.declared.expression.Place.{Place as CodePlace}
@@ -38,6 +39,9 @@ use Rattle.st_check_body.proofs.Parts.{both, joined, none_before, none_behind}
 
 pub statement_seen : (c : CheckedStatement) (s : Scope) (in_loop : Bool) (x : Stmt ℕ) (y : Statement ℕ) → statement_of x ≡ y → StatementFinds c s in_loop y → StatementFinds c s in_loop (statement_of x)
 statement_seen c s in_loop x y h f = subst (λ (z : Statement ℕ). StatementFinds c s in_loop z) (sym h) f
+
+pub all_statements_seen : (r : Result CheckedStatement NoMemory) (s : Scope) (in_loop : Bool) (x : Stmt ℕ) (y : Statement ℕ) → statement_of x ≡ y → IfOk r (λ c. StatementFinds c s in_loop y) → IfOk r (λ c. StatementFinds c s in_loop (statement_of x))
+all_statements_seen r s in_loop x y h f = subst (λ (z : Statement ℕ). IfOk r (λ c. StatementFinds c s in_loop z)) (sym h) f
 
 pub call_seen : (c : CheckedStatement) (s : Scope) (in_loop : Bool) (x : Stmt ℕ) (l k : ℕ) (p : CodePlace ℕ) (xs ys : List (CodeArgument ℕ)) → x ≡ code.Call l k p xs → ys ≡ xs →
     StatementFinds c s in_loop (Call l k (place_of p).0 (place_of p).1 (arguments_of ys)) → StatementFinds c s in_loop (statement_of x)

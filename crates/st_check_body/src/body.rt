@@ -33,18 +33,30 @@ fn check_statement(
 {
     match x {
         Stmt::Empty(line) => Ok(empty_of(*line)),
-        Stmt::Assign(line, place_line, place, value) => {
-            let c = check_assign(alloc, s, *line, *place_line, place, value)?;
-            Ok(c)
-        }
-        Stmt::Attempt(line, place_line, place, value) => {
-            let c = check_attempt(alloc, s, *line, *place_line, place, value)?;
-            Ok(c)
-        }
-        Stmt::Call(line, call_line, place, arguments) => {
-            let c = check_call(alloc, s, *line, *call_line, place, arguments.as_slice())?;
-            Ok(c)
-        }
+        Stmt::Assign(line, place_line, place, value) => check_assign(
+            alloc,
+            s,
+            *line,
+            *place_line,
+            place,
+            value,
+        ),
+        Stmt::Attempt(line, place_line, place, value) => check_attempt(
+            alloc,
+            s,
+            *line,
+            *place_line,
+            place,
+            value,
+        ),
+        Stmt::Call(line, call_line, place, arguments) => check_call(
+            alloc,
+            s,
+            *line,
+            *call_line,
+            place,
+            arguments.as_slice(),
+        ),
         Stmt::Exit(line) => Ok(exit_of(*line, in_loop)),
         Stmt::Continue(line) => Ok(continue_of(*line, in_loop)),
         Stmt::Return(line) => Ok(return_of(*line)),
@@ -63,8 +75,7 @@ fn check_statement(
         Stmt::For(line, name_line, name, from, to, by, body) => {
             let control = check_control(alloc, s, *name_line, name, from, to, by)?;
             let body = check_statements(alloc, s, true, body.as_slice())?;
-            let c = for_of(alloc, *line, name, control, body)?;
-            Ok(c)
+            for_of(alloc, *line, name, control, body)
         }
         Stmt::While(line, e, body) => {
             let e = check_condition(alloc, s, e)?;

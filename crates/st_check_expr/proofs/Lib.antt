@@ -1,3 +1,4 @@
+pub mod OkLaws
 pub mod Parts
 pub mod NegateLaws
 pub mod RowSteps

@@ -12,7 +12,7 @@ use Rattle.st_rules.specs.declared.asked.Asked.TheVariants.{Anything}
 use Rattle.st_rules.specs.Faults.{least, earlier}
 use Rattle.st_rules.specs.Kinds.{is_arithmetic, operation_type}
 use Rattle.st_rules.specs.Scope.{Scope}
-use Rattle.st_rules.specs.Expressions.{note, is_untyped, front_asked, asked_behind, operand_asked, operands_unsuited, type_of, faults, typed, row_type, row_faults, typed_row}
+use Rattle.st_rules.specs.Expressions.{note, is_untyped, front_asked, asked_behind, operand_asked, line_of, row_unsuited, type_of, faults, typed, row_type, row_faults, typed_row}
 use Rattle.st_rules.proofs.FaultLaws.{least-append, earlier-none}
 use Rattle.st_expr_parts.specs.declared.found.Checked.{Checked}
 use Rattle.st_expr_parts.specs.declared.rows.Row.{Row}
@@ -37,7 +37,7 @@ whole_is {a' = a'} {b = b} {b' = b'} {c = c} {c' = c'} {d = d} p q r t =
     ap (λ (x : Option StType). whole_of x b c d) p ∙ ap (λ (x : Option (Code × ℕ)). whole_of a' x c d) q ∙ ap (λ (x : Expression Note). whole_of a' b' x d) r ∙ ap (λ (x : Tails Note). whole_of a' b' c' x) t
 
 module _ (s : Scope) (asked : Asked) (before r : Row) (y : Checked) (l : ℕ) (o : Operator) (e : Expression ℕ)
-    (j : Joins r l o (is_untyped e) before y) (f : Checks y s (operand_asked before.untyped (is_untyped e) asked before.told) e) where
+    (j : Joins r l o (line_of e) (is_untyped e) before y) (f : Checks y s (operand_asked before.untyped (is_untyped e) asked before.told) e) where
   abbrev inner : Asked
   inner = operand_asked before.untyped (is_untyped e) asked before.told
 
@@ -48,10 +48,10 @@ module _ (s : Scope) (asked : Asked) (before r : Row) (y : Checked) (l : ℕ) (o
   state : {X : Type 0} (of : Bool → Option StType → X) → of r.untyped r.told ≡ of (is_arithmetic o && before.untyped && is_untyped e) (operation_type o before.told (type_of s inner e))
   state of = ap (λ u. of u r.told) j.untyped ∙ ap (of (is_arithmetic o && before.untyped && is_untyped e)) told_is
 
-  least_is : r.least ≡ earlier (earlier before.least (least (faults s inner e))) (least (operands_unsuited l o before.told (type_of s inner e)))
+  least_is : r.least ≡ earlier (earlier before.least (least (faults s inner e))) (least (row_unsuited e l o before.told (type_of s inner e)))
   least_is = j.least
-      ∙ ap (λ x. earlier (earlier before.least x) (least (operands_unsuited l o before.told y.told))) f.least
-      ∙ ap (λ t. earlier (earlier before.least (least (faults s inner e))) (least (operands_unsuited l o before.told t))) f.told
+      ∙ ap (λ x. earlier (earlier before.least x) (least (row_unsuited e l o before.told y.told))) f.least
+      ∙ ap (λ t. earlier (earlier before.least (least (faults s inner e))) (least (row_unsuited e l o before.told t))) f.told
 
   tails_are : map tail_of r.tails ≡ map tail_of before.tails ++ (note l (operation_type o before.told (type_of s inner e)) Nothing, o, typed s inner e) ∷ []
   tails_are = j.tails
@@ -63,8 +63,8 @@ module _ (s : Scope) (asked : Asked) (before r : Row) (y : Checked) (l : ℕ) (o
   row_goes ts = whole_is
       (state (λ u t. row_type s u asked t ts))
       (ap (λ x. earlier x (least (row_faults s r.untyped asked r.told ts))) least_is
-      ∙ ap (λ fs. earlier (earlier (earlier before.least (least (faults s inner e))) (least (operands_unsuited l o before.told (type_of s inner e)))) (least fs)) (state (λ u t. row_faults s u asked t ts))
-      ∙ sym (three_parts before.least (faults s inner e) (operands_unsuited l o before.told (type_of s inner e)) _))
+      ∙ ap (λ fs. earlier (earlier (earlier before.least (least (faults s inner e))) (least (row_unsuited e l o before.told (type_of s inner e)))) (least fs)) (state (λ u t. row_faults s u asked t ts))
+      ∙ sym (three_parts before.least (faults s inner e) (row_unsuited e l o before.told (type_of s inner e)) _))
       j.first
       (ap (λ xs. tails_onto xs (typed_row s r.untyped asked r.told ts)) tails_are
       ∙ ap (λ rest. tails_onto (map tail_of before.tails ++ (note l (operation_type o before.told (type_of s inner e)) Nothing, o, typed s inner e) ∷ []) rest) (state (λ u t. typed_row s u asked t ts))

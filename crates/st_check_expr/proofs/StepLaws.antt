@@ -68,36 +68,40 @@ module _ (t : Tail ℕ) where
 
   -- ---- the row
 
-  joins_seen : (r before : Row) (y : Checked) (alone : Bool) → is_untyped e ≡ alone → Joins r t.note t.operator alone before y → Joins r l o (is_untyped e) before y
-  joins_seen r before y alone u j =
-      subst (λ (b : Bool). Joins r l o b before y) (sym u)
-      (subst (λ (p : ℕ × Operator × Expression ℕ). Joins r p.0 p.1 alone before y) (sym (tail_of-is t)) j)
+  own_seen : (own : ℕ) → own ≡ line_of (expression_of t.operand) → own ≡ line_of e
+  own_seen own m = m ∙ sym (ap (λ (x : Expression ℕ). line_of x) (tail_of-operand t))
 
-  module _ (s : Scope) (asked : Asked) (before x : RowSoFar) (y : Checked) (u : Bool) (h : u ≡ is_untyped (expression_of t.operand)) where
-    pub untyped_step : u ≡ true → Joins x.row t.note t.operator true before.row y → x.kept ≡ before.kept → (wanted : Asked) → wanted ≡ operand_asked before.row.untyped true asked before.row.told →
+  joins_seen : (r before : Row) (y : Checked) (own : ℕ) (alone : Bool) → own ≡ line_of (expression_of t.operand) → is_untyped e ≡ alone → Joins r t.note t.operator own alone before y → Joins r l o (line_of e) (is_untyped e) before y
+  joins_seen r before y own alone m u j =
+      subst (λ (k : ℕ). Joins r l o k (is_untyped e) before y) (own_seen own m)
+      (subst (λ (b : Bool). Joins r l o own b before y) (sym u)
+      (subst (λ (p : ℕ × Operator × Expression ℕ). Joins r p.0 p.1 own alone before y) (sym (tail_of-is t)) j))
+
+  module _ (s : Scope) (asked : Asked) (before x : RowSoFar) (y : Checked) (own : ℕ) (m : own ≡ line_of (expression_of t.operand)) (u : Bool) (h : u ≡ is_untyped (expression_of t.operand)) where
+    pub untyped_step : u ≡ true → Joins x.row t.note t.operator own true before.row y → x.kept ≡ before.kept → (wanted : Asked) → wanted ≡ operand_asked before.row.untyped true asked before.row.told →
         Checks y s wanted (expression_of t.operand) → RowGoes s asked before x l o e
     untyped_step k j same wanted w f =
         let v : is_untyped e ≡ true = untyped_seen u true h k in
         let inner : wanted ≡ operand_asked before.row.untyped (is_untyped e) asked before.row.told = w ∙ ap (λ b. operand_asked before.row.untyped b asked before.row.told) (sym v) in
         record {
-          whole = λ ts p. row_goes s asked before.row x.row y l o e (joins_seen x.row before.row y true v j) (subst (λ (a : Asked). Checks y s a e) inner (operand_seen y s wanted f)) ts;
+          whole = λ ts p. row_goes s asked before.row x.row y l o e (joins_seen x.row before.row y own true m v j) (subst (λ (a : Asked). Checks y s a e) inner (operand_seen y s wanted f)) ts;
           keeps = λ ts p. subst (λ (k : Option Checked). Keeps k s ts) (sym same) (keeps_on before.kept s l o e ts v p);
         }
 
-    typed_step : u ≡ false → Joins x.row t.note t.operator false before.row y → x.kept ≡ None → ((ts : Tails ℕ) → Keeps before.kept s (tail_then l o e ts) → Checks y s Anything e) → RowGoes s asked before x l o e
+    typed_step : u ≡ false → Joins x.row t.note t.operator own false before.row y → x.kept ≡ None → ((ts : Tails ℕ) → Keeps before.kept s (tail_then l o e ts) → Checks y s Anything e) → RowGoes s asked before x l o e
     typed_step k j n f =
         let v : is_untyped e ≡ false = untyped_seen u false h k in
         record {
-          whole = λ ts p. row_goes s asked before.row x.row y l o e (joins_seen x.row before.row y false v j)
+          whole = λ ts p. row_goes s asked before.row x.row y l o e (joins_seen x.row before.row y own false m v j)
               (subst (λ (a : Asked). Checks y s a e) (sym (asked_alone before.row.untyped e asked before.row.told v)) (f ts p)) ts;
           keeps = λ ts p. subst (λ (k : Option Checked). Keeps k s ts) (sym n) (keeps_nothing s ts);
         }
 
-    pub kept_step : u ≡ false → Joins x.row t.note t.operator false before.row y → x.kept ≡ None → before.kept ≡ Some y → RowGoes s asked before x l o e
+    pub kept_step : u ≡ false → Joins x.row t.note t.operator own false before.row y → x.kept ≡ None → before.kept ≡ Some y → RowGoes s asked before x l o e
     kept_step k j n q =
         typed_step k j n (λ ts p. kept_is y s l o e ts (untyped_seen u false h k) (subst (λ (k : Option Checked). Keeps k s (tail_then l o e ts)) q p))
 
-    pub fresh_step : u ≡ false → Joins x.row t.note t.operator false before.row y → x.kept ≡ None → Checks y s Anything (expression_of t.operand) → RowGoes s asked before x l o e
+    pub fresh_step : u ≡ false → Joins x.row t.note t.operator own false before.row y → x.kept ≡ None → Checks y s Anything (expression_of t.operand) → RowGoes s asked before x l o e
     fresh_step k j n f = typed_step k j n (λ ts p. operand_seen y s Anything f)
 
 -- ---- selectors and arguments

@@ -25,16 +25,11 @@ pub fn check_whole(
 ) -> Result<Checked, NoMemory>
     ensures { IfOk result (λ c. Finds c (type_of s.now asked.now (expression_of e.now)) (expression_faults s.now asked.now (expression_of e.now)) (typed s.now asked.now (expression_of e.now))) }
 {
-    let x = check(alloc, s, e, asked)?;
-    let Checked { told, least, tree } = x;
-    let of_value = value_fault(s, line_of(e), asked, &told);
-    let inner = earlier(least, of_value);
-    let found = earlier(inner, operators_fault(e));
-    Ok(Checked {
-        told,
-        least: found,
-        tree,
-    })
+    let mut x = check(alloc, s, e, asked)?;
+    let of_value = value_fault(s, line_of(e), asked, &x.told);
+    let inner = earlier(x.least, of_value);
+    x.least = earlier(inner, operators_fault(e));
+    Ok(x)
 }
 
 /// The typed tree of an expression that stands in no other, at a place that asks for something, where no rule is broken; else the least
@@ -51,6 +46,6 @@ pub fn check_expr(
     let x = check_whole(alloc, s, e, asked)?;
     match x.least {
         Some((code, line)) => Err(Broken::Rule(code, line)),
-        None => Ok(x.tree),
+        None => Ok(x.into_tree()),
     }
 }

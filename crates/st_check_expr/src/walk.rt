@@ -41,40 +41,25 @@ pub fn check(
     ensures { IfOk result (λ c. Checks c s.now asked.now (expression_of e.now)) }
 {
     match e {
-        Expr::Int(line, digits) => {
-            let c = int(alloc, *line, digits, asked)?;
-            Ok(c)
-        }
-        Expr::Typed(line, kind, literal) => {
-            let c = typed_literal(alloc, *line, *kind, literal)?;
-            Ok(c)
-        }
-        Expr::Time(line, text) => {
-            let c = duration(alloc, *line, text)?;
-            Ok(c)
-        }
+        Expr::Int(line, digits) => int(alloc, *line, digits, asked),
+        Expr::Typed(line, kind, literal) => typed_literal(alloc, *line, *kind, literal),
+        Expr::Time(line, text) => duration(alloc, *line, text),
         Expr::True(line) => Ok(truth(*line)),
         Expr::False(line) => Ok(falsehood(*line)),
         Expr::Now(line) => Ok(now(*line)),
-        Expr::Null(line) => {
-            let c = null(alloc, *line, asked)?;
-            Ok(c)
-        }
-        Expr::Enumerator(line, type_name, name_line, name) => {
-            let c = enumerator(alloc, s, *line, type_name, *name_line, name)?;
-            Ok(c)
-        }
+        Expr::Null(line) => null(alloc, *line, asked),
+        Expr::Enumerator(line, type_name, name_line, name) => enumerator(
+            alloc, s, *line, type_name, *name_line, name,
+        ),
         Expr::Place(line, place) => {
             let selectors = place.selectors.as_slice();
             let x = check_place(alloc, s, place, false)?;
-            let c = whole(alloc, s, *line, &place.root, selectors, x)?;
-            Ok(c)
+            whole(alloc, s, *line, &place.root, selectors, x)
         }
         Expr::Ref(line, place) => {
             let selectors = place.selectors.as_slice();
             let x = check_place(alloc, s, place, false)?;
-            let c = reference(alloc, s, *line, &place.root, selectors, x)?;
-            Ok(c)
+            reference(alloc, s, *line, &place.root, selectors, x)
         }
         Expr::Call(line, place, arguments) => {
             let root = &place.root;
@@ -83,39 +68,29 @@ pub fn check(
             let call = prepare(alloc, s, *line, root, selectors, arguments)?;
             let x = check_place(alloc, s, place, true)?;
             let xs = check_arguments(alloc, s, arguments, &call.slots)?;
-            let c = finish(alloc, s, *line, root, selectors, call, x, xs)?;
-            Ok(c)
+            finish(alloc, s, *line, root, selectors, call, x, xs)
         }
         Expr::Paren(line, inner) => {
             let x = check(alloc, s, inner.get(), asked)?;
-            let c = enclosed(alloc, *line, x)?;
-            Ok(c)
+            enclosed(alloc, *line, x)
         }
         Expr::Not(line, inner) => {
             let inner = inner.get();
             let x = check(alloc, s, inner, &Asked::Anything)?;
-            let c = denied(alloc, *line, line_of(inner), x)?;
-            Ok(c)
+            denied(alloc, *line, line_of(inner), x)
         }
-        Expr::Negate(line, inner) => {
-            let c = check_negate(alloc, s, inner.get(), *line, asked)?;
-            Ok(c)
-        }
+        Expr::Negate(line, inner) => check_negate(alloc, s, inner.get(), *line, asked),
         Expr::Chain(line, first, tails) => {
             let first = first.get();
             let tails = tails.as_slice();
             let untyped = is_untyped(first);
             let ahead = look_ahead(alloc, s, tails, untyped, asked)?;
-            let Ahead {
-                asked: wanted,
-                kept,
-            } = ahead;
+            let (wanted, kept) = ahead.into_parts();
             let x = check(alloc, s, first, &wanted)?;
             let row = began(alloc, untyped, x);
             let front = RowSoFar { row, kept };
             let row = check_tails(alloc, s, tails, front, &wanted)?;
-            let c = closed(alloc, *line, row)?;
-            Ok(c)
+            closed(alloc, *line, row)
         }
     }
 }
@@ -132,15 +107,11 @@ fn check_negate(
     ensures { IfOk result (λ c. Checks c s.now asked.now (tree.Negate line (expression_of inner.now))) }
 {
     match as_int(inner) {
-        Some((int_line, digits)) => {
-            let c = negative(alloc, line, int_line, digits, asked)?;
-            Ok(c)
-        }
+        Some((int_line, digits)) => negative(alloc, line, int_line, digits, asked),
         None => {
             let wanted = front_asked(is_untyped(inner), number_asked(asked));
             let x = check(alloc, s, inner, &wanted)?;
-            let c = negated(alloc, line, line_of(inner), x)?;
-            Ok(c)
+            negated(alloc, line, line_of(inner), x)
         }
     }
 }
@@ -167,8 +138,7 @@ fn look_ahead(
             None => passed = true,
         }
     }
-    let ahead = to_the_end(alloc, passed, asked)?;
-    Ok(ahead)
+    to_the_end(alloc, passed, asked)
 }
 
 /// Whether the untyped front of a row ends at this operand; nothing where it goes on.
@@ -226,20 +196,21 @@ fn row_step(
     ensures { IfOk result (λ x. RowGoes s.now asked.now so_far x (tail_of tail.now).0 (tail_of tail.now).1 (tail_of tail.now).2) }
 {
     let RowSoFar { row, kept } = so_far;
+    let own = line_of(&tail.operand);
     if is_untyped(&tail.operand) {
         let wanted = operand_asked(alloc, &row, asked)?;
         let x = check(alloc, s, &tail.operand, &wanted)?;
-        let row = joined(alloc, tail.note, tail.operator, true, row, x)?;
+        let row = joined(alloc, tail.note, tail.operator, own, true, row, x)?;
         return Ok(RowSoFar { row, kept });
     }
     match kept {
         Some(x) => {
-            let row = joined(alloc, tail.note, tail.operator, false, row, x)?;
+            let row = joined(alloc, tail.note, tail.operator, own, false, row, x)?;
             Ok(RowSoFar { row, kept: None })
         }
         None => {
             let x = check(alloc, s, &tail.operand, &Asked::Anything)?;
-            let row = joined(alloc, tail.note, tail.operator, false, row, x)?;
+            let row = joined(alloc, tail.note, tail.operator, own, false, row, x)?;
             Ok(RowSoFar { row, kept: None })
         }
     }
@@ -307,8 +278,7 @@ fn along_step<'a>(
     let b = so_far.standing;
     let next = selected(s, b, selector);
     let one = check_selector(alloc, s, selector, line, called, b, next)?;
-    let x = extended(so_far, next, one)?;
-    Ok(x)
+    extended(so_far, next, one)
 }
 
 /// Checks a selector between what stands before it and what stands behind it.
@@ -327,19 +297,12 @@ fn check_selector(
 {
     let own = selector_fault(s, line, called, b, selector);
     match selector {
-        Selector::Field(line, name) => {
-            let c = noted_field(alloc, s, called, b, own, *line, name)?;
-            Ok(c)
-        }
+        Selector::Field(line, name) => noted_field(alloc, s, called, b, own, *line, name),
         Selector::Index(line, indices) => {
             let found = check_indices(alloc, s, indices.as_slice())?;
-            let c = noted_index(alloc, next, own, *line, found)?;
-            Ok(c)
+            noted_index(alloc, next, own, *line, found)
         }
-        Selector::Target(line) => {
-            let c = noted_target(alloc, next, own, *line)?;
-            Ok(c)
-        }
+        Selector::Target(line) => noted_target(alloc, next, own, *line),
     }
 }
 
@@ -394,15 +357,13 @@ fn check_argument(
         Argument::Input(line, name, value) => {
             let asked = asked_for(alloc, m)?;
             let x = check(alloc, s, value, &asked)?;
-            let c = input(alloc, s, m, *line, name, value, x)?;
-            Ok(c)
+            input(alloc, s, m, *line, name, value, x)
         }
         Argument::Output(line, name, place_line, place) => {
             let root = &place.root;
             let selectors = place.selectors.as_slice();
             let x = check_place(alloc, s, place, false)?;
-            let c = output(alloc, s, m, *line, name, *place_line, root, selectors, x)?;
-            Ok(c)
+            output(alloc, s, m, *line, name, *place_line, root, selectors, x)
         }
     }
 }

@@ -1,4 +1,6 @@
-pub mod CountLaws
 pub mod LastLaws
+pub mod RoomLaws
 pub mod SlotLaws
+pub mod UntypedLaws
+pub mod ViewLaws
 pub mod Views

@@ -1,5 +1,5 @@
 -- Indices and arguments, one after the other.
-use Rattle.std.specs.Prelude.{◌≡◌, ℕ, List, [], ◌∷◌, ◌++◌, map, None}
+use Rattle.std.specs.Prelude.{◌≡◌, ℕ, [], ◌∷◌, ◌++◌, map, None}
 use Rattle.st_tree.specs.Expression.{expression_of, argument_of}
 use Rattle.st_rules.specs.Faults.{least, earlier}
 use Rattle.st_rules.specs.Expressions.{index_unsuited}

@@ -1,5 +1,5 @@
 -- A row of operators, from its first operand on.
-use Rattle.std.specs.Prelude.{◌≡◌, ℕ, Bool, ◌&&◌, if◌then◌else◌, List, [], ◌∷◌, ◌++◌, map, Option, Some}
+use Rattle.std.specs.Prelude.{◌≡◌, ℕ, Bool, ◌&&◌, if◌then◌else◌, [], ◌∷◌, ◌++◌, map, Option, Some}
 use Rattle.st_tree.specs.declared.expression.Operator.{Operator}
 use Rattle.st_tree.specs.declared.program.Target.TheVariants.{Nothing}
 use Rattle.st_tree.specs.Expression.{Chain, tail_of, tails_of, expression_of}
@@ -7,7 +7,7 @@ use Rattle.st_rules.specs.declared.asked.Asked.{Asked}
 use Rattle.st_rules.specs.Faults.{least, earlier}
 use Rattle.st_rules.specs.Kinds.{is_arithmetic, operation_type}
 use Rattle.st_rules.specs.Literals.{asked_of, number_asked}
-use Rattle.st_rules.specs.Expressions.{note, operands_unsuited}
+use Rattle.st_rules.specs.Expressions.{note, operands_unsuited, unsuited_line}
 use Rattle.st_expr_parts.specs.declared.found.Checked.{Checked}
 use Rattle.st_expr_parts.specs.declared.rows.Row.{Row}
 use Rattle.st_expr_parts.specs.declared.rows.Ahead.{Ahead}
@@ -19,11 +19,12 @@ pub record Begins (r : Row) (untyped : Bool) (x : Checked) : Type 0 where
   pub first : expression_of r.first ≡ expression_of x.tree
   pub tails : map tail_of r.tails ≡ []
 
--- the row, from the row before it and the operand that is joined
-pub record Joins (r : Row) (line : ℕ) (o : Operator) (alone : Bool) (before : Row) (y : Checked) : Type 0 where
+-- the row, from the row before it and the operand that is joined, which is untyped or not and has a line of its own: where an untyped one
+-- cannot take the type beside it, it is refused and not the operation
+pub record Joins (r : Row) (line : ℕ) (o : Operator) (own : ℕ) (alone : Bool) (before : Row) (y : Checked) : Type 0 where
   pub untyped : r.untyped ≡ (is_arithmetic o && before.untyped && alone)
   pub told : r.told ≡ operation_type o before.told y.told
-  pub least : r.least ≡ earlier (earlier before.least y.least) (least (operands_unsuited line o before.told y.told))
+  pub least : r.least ≡ earlier (earlier before.least y.least) (least (operands_unsuited (unsuited_line alone own line before.told y.told) o before.told y.told))
   pub first : expression_of r.first ≡ expression_of before.first
   pub tails : map tail_of r.tails ≡ map tail_of before.tails ++ (note line (operation_type o before.told y.told) Nothing, o, expression_of y.tree) ∷ []
 

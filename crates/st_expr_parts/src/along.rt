@@ -71,7 +71,7 @@ pub fn extended<'a>(
 }
 
 /// `.name` behind what stands there, with the least of its own rules.
-#[tactic(auto, using(st_tree::specs::Expression::expression_views))]
+#[tactic(auto, using(crate::proofs::Views::field_view))]
 pub fn noted_field(
     alloc: Global,
     s: &Scope<'_>,
@@ -92,7 +92,7 @@ pub fn noted_field(
 }
 
 /// Indices behind which this stands, with the least of the selector's own rules.
-#[tactic(auto, using(st_tree::specs::Expression::expression_views))]
+#[tactic(auto, using(crate::proofs::Views::index_view))]
 pub fn noted_index(
     alloc: Global,
     next: Standing<'_>,
@@ -110,7 +110,7 @@ pub fn noted_index(
 }
 
 /// `^` behind which this stands, with the least of its own rules.
-#[tactic(auto, using(st_tree::specs::Expression::expression_views))]
+#[tactic(auto, using(crate::proofs::Views::target_view))]
 pub fn noted_target(
     alloc: Global,
     next: Standing<'_>,

@@ -79,8 +79,7 @@ fn prepare_conversion(
     let operand = operand_of(alloc, callee);
     let mut parameters = Vec::new(alloc);
     parameters.push(&operand)?;
-    let x = prepare_with(alloc, s, line, on_super, callee, &parameters, arguments)?;
-    Ok(x)
+    prepare_with(alloc, s, line, on_super, callee, &parameters, arguments)
 }
 
 fn prepare_for(
@@ -94,36 +93,21 @@ fn prepare_for(
     ensures { IfOk result (λ x. IsPrepared x s.now line on_super (called callee.entry) (calls.heads (arguments_of arguments.now))) }
 {
     match callee {
-        Callee::Conversion(from, to) => {
-            let x = prepare_conversion(alloc, s, line, on_super, from, to, arguments)?;
-            Ok(x)
-        }
+        Callee::Conversion(from, to) => prepare_conversion(
+            alloc, s, line, on_super, from, to, arguments,
+        ),
         Callee::Routine(r) => {
             let parameters = routine_parameters(alloc, r.parameters.as_slice())?;
-            let x = prepare_with(alloc, s, line, on_super, callee, &parameters, arguments)?;
-            Ok(x)
+            prepare_with(alloc, s, line, on_super, callee, &parameters, arguments)
         }
         Callee::Body(class) => {
             let parameters = block_parameters(alloc, s, class)?;
-            let x = prepare_with(alloc, s, line, on_super, callee, &parameters, arguments)?;
-            Ok(x)
+            prepare_with(alloc, s, line, on_super, callee, &parameters, arguments)
         }
-        Callee::Nothing => {
-            let x = prepare_with(alloc, s, line, on_super, callee, &[], arguments)?;
-            Ok(x)
-        }
-        Callee::NotCallable => {
-            let x = prepare_with(alloc, s, line, on_super, callee, &[], arguments)?;
-            Ok(x)
-        }
-        Callee::BaseBody(_) => {
-            let x = prepare_with(alloc, s, line, on_super, callee, &[], arguments)?;
-            Ok(x)
-        }
-        Callee::NoBaseBody => {
-            let x = prepare_with(alloc, s, line, on_super, callee, &[], arguments)?;
-            Ok(x)
-        }
+        Callee::Nothing => prepare_with(alloc, s, line, on_super, callee, &[], arguments),
+        Callee::NotCallable => prepare_with(alloc, s, line, on_super, callee, &[], arguments),
+        Callee::BaseBody(_) => prepare_with(alloc, s, line, on_super, callee, &[], arguments),
+        Callee::NoBaseBody => prepare_with(alloc, s, line, on_super, callee, &[], arguments),
     }
 }
 
@@ -140,12 +124,11 @@ pub fn prepare(
 {
     let callee = callee_at(s, root, selectors);
     let on_super = is_on_super(root, selectors);
-    let x = prepare_for(alloc, s, line, on_super, callee, arguments)?;
-    Ok(x)
+    prepare_for(alloc, s, line, on_super, callee, arguments)
 }
 
 /// A call, from what is found out about its parts.
-#[tactic(auto, using(st_tree::specs::Expression::expression_views))]
+#[tactic(auto, using(crate::proofs::Views::call_view))]
 pub fn finish(
     alloc: Global,
     s: &Scope<'_>,
@@ -165,6 +148,6 @@ pub fn finish(
     Ok(Checked {
         told: call.told,
         least: earlier(of_parts, call.of_result),
-        tree: Expr::Call(note, place.place, arguments.arguments),
+        tree: Expr::Call(note, place.into_place(), arguments.arguments),
     })
 }

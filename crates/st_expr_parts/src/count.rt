@@ -24,7 +24,6 @@ fn taken(room: usize, count: usize) -> Option<usize>
 
 /// How much of the room is left behind the operators of an expression; nothing where there are more.
 #[cycle(count)]
-#[tactic(auto, using(st_tree::specs::Expression::expression_views))]
 fn expression_left(e: &Expr<u32>, room: usize) -> Option<usize>
     ensures { own.Leaves result room (expressions.operators (expression_of e.now)) }
 {
@@ -64,7 +63,6 @@ fn expression_left(e: &Expr<u32>, room: usize) -> Option<usize>
 }
 
 #[cycle(count)]
-#[tactic(auto, using(st_tree::specs::Expression::expression_views))]
 fn tail_left(tail: &Tail<u32>, room: usize) -> Option<usize>
     ensures { own.Leaves result room (expressions.operators (tail_of tail.now).2 + 1) }
 {
@@ -73,7 +71,6 @@ fn tail_left(tail: &Tail<u32>, room: usize) -> Option<usize>
 }
 
 #[cycle(count)]
-#[tactic(auto, using(crate::proofs::CountLaws::one_tail))]
 fn tails_left(tails: &[Tail<u32>], room: usize) -> Option<usize>
     ensures { own.Leaves result room (expressions.tail_operators (tails_of tails.now)) }
 {
@@ -96,7 +93,6 @@ fn indices_left(indices: &[Expr<u32>], room: usize) -> Option<usize>
 }
 
 #[cycle(count)]
-#[tactic(auto, using(st_tree::specs::Expression::expression_views))]
 fn selector_left(selector: &Selector<u32>, room: usize) -> Option<usize>
     ensures { own.Leaves result room (own.selector_count (selector_of selector.now)) }
 {
@@ -108,7 +104,6 @@ fn selector_left(selector: &Selector<u32>, room: usize) -> Option<usize>
 }
 
 #[cycle(count)]
-#[tactic(auto, using(crate::proofs::CountLaws::one_selector))]
 fn selectors_left(selectors: &[Selector<u32>], room: usize) -> Option<usize>
     ensures { own.Leaves result room (expressions.selector_operators (selectors_of selectors.now)) }
 {
@@ -120,7 +115,6 @@ fn selectors_left(selectors: &[Selector<u32>], room: usize) -> Option<usize>
 }
 
 #[cycle(count)]
-#[tactic(auto, using(st_tree::specs::Expression::expression_views))]
 fn argument_left(argument: &Argument<u32>, room: usize) -> Option<usize>
     ensures { own.Leaves result room (own.argument_count (argument_of argument.now)) }
 {
@@ -132,7 +126,6 @@ fn argument_left(argument: &Argument<u32>, room: usize) -> Option<usize>
 }
 
 #[cycle(count)]
-#[tactic(auto, using(crate::proofs::CountLaws::one_argument))]
 fn arguments_left(arguments: &[Argument<u32>], room: usize) -> Option<usize>
     ensures { own.Leaves result room (expressions.argument_operators (arguments_of arguments.now)) }
 {

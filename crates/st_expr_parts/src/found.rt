@@ -11,13 +11,53 @@ use st_types::StType;
 use std::alloc::Global;
 
 /// The type of an expression, the least rule that it breaks, and its typed tree.
-#[derive(Drop)]
 pub struct Checked {
     /// None where it cannot be told.
     pub told: Option<StType>,
     /// With its line.
     pub least: Option<(Code, u32)>,
     pub tree: Expr<Note>,
+}
+
+// By hand, so that a drop is one call: a derived one is written out wherever a `?` may need it.
+impl Drop for Checked {
+    fn drop(self) {
+        let Checked {
+            told,
+            least: _,
+            tree,
+        } = self;
+        drop(told);
+        drop(tree);
+    }
+}
+
+impl Checked {
+    /// The type, the least rule and the typed tree.
+    pub fn into_parts(self) -> (Option<StType>, Option<(Code, u32)>, Expr<Note>)
+        ensures { result ≡ (self.told, self.least, self.tree) }
+    {
+        let Checked { told, least, tree } = self;
+        (told, least, tree)
+    }
+
+    /// The type alone.
+    pub fn into_told(self) -> Option<StType>
+        ensures { result ≡ self.told }
+    {
+        let (told, _, tree) = self.into_parts();
+        drop(tree);
+        told
+    }
+
+    /// The typed tree alone.
+    pub fn into_tree(self) -> Expr<Note>
+        ensures { result ≡ self.tree }
+    {
+        let (told, _, tree) = self.into_parts();
+        drop(told);
+        tree
+    }
 }
 
 /// The same type again.

@@ -42,7 +42,6 @@ pub fn asked_for(alloc: Global, m: Option<&Slot>) -> Result<Asked, NoMemory>
 }
 
 /// The type of the parameter.
-#[tactic(auto, unfolding(st_rules::specs::Calls::matched_type))]
 fn matched_type(alloc: Global, m: Option<&Slot>) -> Result<Option<StType>, NoMemory>
     ensures { IfOk result (λ t. t ≡ calls.matched_type (lent m.entry)) }
 {
@@ -84,7 +83,6 @@ fn is_in_out_sort(sort: SectionSort) -> bool
     matches!(sort, SectionSort::InOut)
 }
 
-#[tactic(auto, using(st_tree::specs::Expression::expression_views))]
 fn is_bindable_place(s: &Scope<'_>, e: &Expr<u32>) -> bool
     ensures { result ≡ calls.is_bindable_place s.now (expression_of e.now) }
 {
@@ -167,19 +165,19 @@ fn given_fault(
 }
 
 /// A positional argument, from what is found out about its value.
-#[tactic(auto, using(st_tree::specs::Expression::expression_views))]
+#[tactic(auto, using(crate::proofs::Views::positional_view))]
 pub fn positional(s: &Scope<'_>, m: Option<&Slot>, e: &Expr<u32>, value: Checked) -> CheckedArgument
     ensures { GivesPositional result s.now (lent m.entry) (expression_of e.now) value }
 {
     let own = given_fault(s, m, e, &value.told);
     CheckedArgument {
         least: earlier(value.least, own),
-        argument: Argument::Positional(value.tree),
+        argument: Argument::Positional(value.into_tree()),
     }
 }
 
 /// `name := value`, from what is found out about its value.
-#[tactic(auto, using(st_tree::specs::Expression::expression_views))]
+#[tactic(auto, using(crate::proofs::Views::input_view))]
 pub fn input(
     alloc: Global,
     s: &Scope<'_>,
@@ -196,7 +194,7 @@ pub fn input(
     let name = Text::copy(alloc, name.as_str())?;
     Ok(CheckedArgument {
         least: earlier(value.least, own),
-        argument: Argument::Input(note, name, value.tree),
+        argument: Argument::Input(note, name, value.into_tree()),
     })
 }
 
@@ -221,7 +219,6 @@ fn taking_fault(
 }
 
 /// An output that is not to be assigned to a place of this type.
-#[tactic(auto, unfolding(st_rules::specs::Calls::matched_type, st_rules::specs::Calls::output_unsuited))]
 fn taken_fault(
     s: &Scope<'_>,
     line: u32,
@@ -237,7 +234,7 @@ fn taken_fault(
 }
 
 /// `name => place`, with the lines of both, from what is found out about the place.
-#[tactic(auto, using(st_tree::specs::Expression::expression_views))]
+#[tactic(auto, using(crate::proofs::Views::output_views))]
 pub fn output(
     alloc: Global,
     s: &Scope<'_>,
@@ -259,6 +256,6 @@ pub fn output(
     let name = Text::copy(alloc, name.as_str())?;
     Ok(CheckedArgument {
         least: earlier(place.least, own),
-        argument: Argument::Output(name_note, name, place_note, place.place),
+        argument: Argument::Output(name_note, name, place_note, place.into_place()),
     })
 }

@@ -22,7 +22,7 @@ use st_types::{Boxed, Elem, StType};
 use std::alloc::Global;
 
 /// An int.
-#[tactic(auto, using(st_tree::specs::Expression::expression_views))]
+#[tactic(auto, using(crate::proofs::Views::int_view))]
 pub fn int(alloc: Global, line: u32, digits: &Text, asked: &Asked) -> Result<Checked, NoMemory>
     ensures { IfOk result (λ c. Finds c (literals.int_type asked.now digits.now) (literals.int_faults line digits.now (literals.int_type asked.now digits.now))
         (tree.Int (expressions.note line (literals.int_type asked.now digits.now) target.Nothing) digits.now)) }
@@ -39,7 +39,7 @@ pub fn int(alloc: Global, line: u32, digits: &Text, asked: &Asked) -> Result<Che
 }
 
 /// An int with its sign.
-#[tactic(auto, using(st_tree::specs::Expression::expression_views))]
+#[tactic(auto, using(crate::proofs::Views::negative_views))]
 pub fn negative(
     alloc: Global,
     line: u32,
@@ -64,7 +64,7 @@ pub fn negative(
 }
 
 /// A literal behind its type.
-#[tactic(auto, using(st_tree::specs::Expression::expression_views))]
+#[tactic(auto, using(crate::proofs::Views::typed_view))]
 pub fn typed_literal(
     alloc: Global,
     line: u32,
@@ -86,7 +86,7 @@ pub fn typed_literal(
 }
 
 /// A duration.
-#[tactic(auto, using(st_tree::specs::Expression::expression_views))]
+#[tactic(auto, using(crate::proofs::Views::time_view))]
 pub fn duration(alloc: Global, line: u32, text: &Text) -> Result<Checked, NoMemory>
     ensures { IfOk result (λ c. Finds c (Some kinds.time) (literals.time_past_32_bits line text.now) (tree.Time (expressions.note line (Some kinds.time) target.Nothing) text.now)) }
 {
@@ -107,7 +107,7 @@ fn of_kind(line: u32, kind: Elem) -> Note
 }
 
 /// TRUE.
-#[tactic(auto, using(st_tree::specs::Expression::expression_views))]
+#[tactic(auto, using(crate::proofs::Views::true_view))]
 pub fn truth(line: u32) -> Checked
     ensures { Finds result (Some kinds.boolean) [] (tree.True (expressions.note line (Some kinds.boolean) target.Nothing)) }
 {
@@ -119,7 +119,7 @@ pub fn truth(line: u32) -> Checked
 }
 
 /// FALSE.
-#[tactic(auto, using(st_tree::specs::Expression::expression_views))]
+#[tactic(auto, using(crate::proofs::Views::false_view))]
 pub fn falsehood(line: u32) -> Checked
     ensures { Finds result (Some kinds.boolean) [] (tree.False (expressions.note line (Some kinds.boolean) target.Nothing)) }
 {
@@ -131,7 +131,7 @@ pub fn falsehood(line: u32) -> Checked
 }
 
 /// TIME().
-#[tactic(auto, using(st_tree::specs::Expression::expression_views))]
+#[tactic(auto, using(crate::proofs::Views::now_view))]
 pub fn now(line: u32) -> Checked
     ensures { Finds result (Some kinds.time) [] (tree.Now (expressions.note line (Some kinds.time) target.Nothing)) }
 {
@@ -143,7 +143,7 @@ pub fn now(line: u32) -> Checked
 }
 
 /// NULL.
-#[tactic(auto, using(st_tree::specs::Expression::expression_views))]
+#[tactic(auto, using(crate::proofs::Views::null_view))]
 pub fn null(alloc: Global, line: u32, asked: &Asked) -> Result<Checked, NoMemory>
     ensures { IfOk result (λ c. Finds c (Some (literals.null_type asked.now)) [] (tree.Null (expressions.note line (Some (literals.null_type asked.now)) target.Nothing))) }
 {

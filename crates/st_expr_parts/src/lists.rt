@@ -1,6 +1,6 @@
 //! Indices and arguments, one after the other.
 
-ghost use Rattle.std.specs.Prelude.{IfOk};
+ghost use Rattle.std.specs.Prelude.{◌≡◌, IfOk};
 ghost use Rattle.st_expr_parts.specs.Lists.{NoIndex, NoArgument, AddsIndex, AddsArgument};
 
 use crate::found::Checked;
@@ -31,16 +31,14 @@ pub fn no_index(alloc: Global) -> Indices
 pub fn with_index(so_far: Indices, line: u32, one: Checked) -> Result<Indices, NoMemory>
     ensures { IfOk result (λ x. AddsIndex x so_far line one) }
 {
+    let own = index_fault(line, &one.told);
     let Indices {
         least,
         mut expressions,
     } = so_far;
-    let own = index_fault(line, &one.told);
-    expressions.push(one.tree)?;
-    Ok(Indices {
-        least: earlier(earlier(least, one.least), own),
-        expressions,
-    })
+    let least = earlier(earlier(least, one.least), own);
+    expressions.push(one.into_tree())?;
+    Ok(Indices { least, expressions })
 }
 
 /// The least rule that arguments break so far, and their typed trees.
@@ -51,10 +49,25 @@ pub struct Arguments {
 }
 
 /// One argument: the least rule that it breaks, and its typed tree.
-#[derive(Drop)]
 pub struct CheckedArgument {
     pub least: Option<(Code, u32)>,
     pub argument: Argument<Note>,
+}
+
+// By hand, so that a drop is one call: a derived one is written out wherever a `?` may need it.
+impl Drop for CheckedArgument {
+    fn drop(self) {
+        drop(self.into_argument());
+    }
+}
+
+impl CheckedArgument {
+    fn into_argument(self) -> Argument<Note>
+        ensures { result ≡ self.argument }
+    {
+        let CheckedArgument { least: _, argument } = self;
+        argument
+    }
 }
 
 /// No arguments yet.
@@ -75,9 +88,7 @@ pub fn with_argument(so_far: Arguments, one: CheckedArgument) -> Result<Argument
         least,
         mut arguments,
     } = so_far;
-    arguments.push(one.argument)?;
-    Ok(Arguments {
-        least: earlier(least, one.least),
-        arguments,
-    })
+    let least = earlier(least, one.least);
+    arguments.push(one.into_argument())?;
+    Ok(Arguments { least, arguments })
 }

@@ -9,14 +9,15 @@ ghost use Rattle.st_expr_parts.specs.Rows.{Begins, Joins, Closes, EndsFront, Loo
 
 use crate::found::{Checked, again, noted};
 use plc_text::{Code, Items, NoMemory};
-use st_operators::{asked_of, is_arithmetic, number_asked, operands_fault, operation_type};
+use st_operators::{
+    asked_of, is_arithmetic, is_number, number_asked, operands_fault, operation_type,
+};
 use st_rules::{Asked, earlier};
 use st_tree::{Expr, Note, Operator, Tail};
 use st_types::{Boxed, StType};
 use std::alloc::Global;
 
 /// A row so far.
-#[derive(Drop)]
 pub struct Row {
     /// Whether all operands are untyped, with arithmetic operators between them.
     pub untyped: bool,
@@ -27,11 +28,37 @@ pub struct Row {
     pub tails: Items<Tail<Note>>,
 }
 
+// By hand, so that a drop is one call: a derived one is written out wherever a `?` may need it.
+impl Drop for Row {
+    fn drop(self) {
+        let (told, first, tails) = self.into_parts();
+        drop(told);
+        drop(first);
+        drop(tails);
+    }
+}
+
+impl Row {
+    /// The type, the first operand and the operators with their operands.
+    fn into_parts(self) -> (Option<StType>, Expr<Note>, Items<Tail<Note>>)
+        ensures { result ≡ (self.told, self.first, self.tails) }
+    {
+        let Row {
+            untyped: _,
+            told,
+            least: _,
+            first,
+            tails,
+        } = self;
+        (told, first, tails)
+    }
+}
+
 /// A row of one operand, which is untyped or not, and is checked.
 pub fn began(alloc: Global, untyped: bool, first: Checked) -> Row
     ensures { Begins result untyped first }
 {
-    let Checked { told, least, tree } = first;
+    let (told, least, tree) = first.into_parts();
     Row {
         untyped,
         told,
@@ -49,7 +76,6 @@ fn stays_untyped(operator: Operator, untyped: bool, alone: bool) -> bool
 }
 
 /// An operator with its note and its operand.
-#[tactic(auto, using(crate::proofs::Views::whole_views))]
 fn tail_of(note: Note, operator: Operator, operand: Expr<Note>) -> Tail<Note>
     ensures { tree.tail_of result ≡ (note, operator, tree.expression_of operand) }
 {
@@ -60,51 +86,75 @@ fn tail_of(note: Note, operator: Operator, operand: Expr<Note>) -> Tail<Note>
     }
 }
 
-/// The row with an operator and its operand more, which is untyped or not, and is checked.
+/// A type of integers or bit strings.
+fn is_number_type(t: &StType) -> bool
+    ensures { result ≡ kinds.is_elementary kinds.is_number t.now }
+{
+    match t {
+        StType::Elementary(e) => is_number(*e),
+        _ => false,
+    }
+}
+
+/// The line at which an operator is refused that does not take a row of this type and the operand behind it: where an untyped operand cannot
+/// take the type of the row, and has that of an int for it, the operand's own, since it is what is refused; else the operation's.
+#[tactic(auto, unfolding(st_rules::specs::Expressions::unsuited_line))]
+fn unsuited_line(
+    alone: bool,
+    own: u32,
+    line: u32,
+    row: &Option<StType>,
+    operand: &Option<StType>,
+) -> u32
+    ensures { result ≡ expressions.unsuited_line alone own line row.now operand.now }
+{
+    if !alone {
+        return line;
+    }
+    match (row, operand) {
+        (Some(t), Some(u)) => if is_number_type(u) && !is_number_type(t) {
+            own
+        } else {
+            line
+        },
+        _ => line,
+    }
+}
+
+/// The row with an operator and its operand more, which begins at a line of its own, is untyped or not, and is checked. An operator that
+/// does not take its operands is refused at its line; where an untyped operand cannot take the type beside it, that operand is refused
+/// instead, at its own.
 pub fn joined(
     alloc: Global,
     line: u32,
     operator: Operator,
+    own: u32,
     alone: bool,
-    row: Row,
+    mut row: Row,
     operand: Checked,
 ) -> Result<Row, NoMemory>
-    ensures { IfOk result (λ r. Joins r line operator alone row operand) }
+    ensures { IfOk result (λ r. Joins r line operator own alone row operand) }
 {
-    let Row {
-        untyped,
-        told,
-        least,
-        first,
-        mut tails,
-    } = row;
-    let own = operands_fault(line, operator, &told, &operand.told);
-    let whole = operation_type(operator, &told, &operand.told);
+    let refused = unsuited_line(alone, own, line, &row.told, &operand.told);
+    let fault = operands_fault(refused, operator, &row.told, &operand.told);
+    let whole = operation_type(operator, &row.told, &operand.told);
     let note = noted(alloc, line, &whole)?;
-    let found = earlier(earlier(least, operand.least), own);
-    tails.push(tail_of(note, operator, operand.tree))?;
-    Ok(Row {
-        untyped: stays_untyped(operator, untyped, alone),
-        told: whole,
-        least: found,
-        first,
-        tails,
-    })
+    row.untyped = stays_untyped(operator, row.untyped, alone);
+    row.least = earlier(earlier(row.least, operand.least), fault);
+    row.told = whole;
+    row.tails
+        .push(tail_of(note, operator, operand.into_tree()))?;
+    Ok(row)
 }
 
 /// The row as an expression.
-#[tactic(auto, using(st_tree::specs::Expression::expression_views))]
+#[tactic(auto, using(crate::proofs::Views::chain_view))]
 pub fn closed(alloc: Global, line: u32, row: Row) -> Result<Checked, NoMemory>
     ensures { IfOk result (λ c. Closes c line row) }
 {
-    let Row {
-        untyped: _,
-        told,
-        least,
-        first,
-        tails,
-    } = row;
-    let note = noted(alloc, line, &told)?;
+    let note = noted(alloc, line, &row.told)?;
+    let least = row.least;
+    let (told, first, tails) = row.into_parts();
     let first = Boxed::new(alloc, first)?;
     Ok(Checked {
         told,
@@ -149,10 +199,28 @@ pub fn operand_asked(alloc: Global, row: &Row, asked: &Asked) -> Result<Asked, N
 }
 
 /// What an untyped front of a row is asked for, and the operand that ends it where one with a type does, checked.
-#[derive(Drop)]
 pub struct Ahead {
     pub asked: Asked,
     pub kept: Option<Checked>,
+}
+
+// By hand, so that a drop is one call: a derived one is written out wherever a `?` may need it.
+impl Drop for Ahead {
+    fn drop(self) {
+        let (asked, kept) = self.into_parts();
+        drop(asked);
+        drop(kept);
+    }
+}
+
+impl Ahead {
+    /// What the front is asked for, and the operand that ends it.
+    pub fn into_parts(self) -> (Asked, Option<Checked>)
+        ensures { result ≡ (self.asked, self.kept) }
+    {
+        let Ahead { asked, kept } = self;
+        (asked, kept)
+    }
 }
 
 /// A front that ends at an operand with a type of its own.
@@ -181,7 +249,7 @@ pub fn asked_nothing() -> Ahead
 pub fn behind(passed: bool, ahead: Ahead) -> Ahead
     ensures { Looks result passed ahead.asked ahead.kept }
 {
-    let Ahead { asked, kept } = ahead;
+    let (asked, kept) = ahead.into_parts();
     if passed {
         Ahead {
             asked: number_asked(&asked),

@@ -11,7 +11,6 @@ use st_tree::{Expr, Tail};
 
 /// Whether it is an int, or an arithmetic operation over what is untyped.
 #[cycle(untyped)]
-#[tactic(auto, using(st_tree::specs::Expression::expression_views))]
 pub fn is_untyped(e: &Expr<u32>) -> bool
     ensures { result ≡ expressions.is_untyped (expression_of e.now) }
 {
@@ -41,7 +40,6 @@ pub fn is_untyped(e: &Expr<u32>) -> bool
 }
 
 #[cycle(untyped)]
-#[tactic(auto, using(st_tree::specs::Expression::expression_views))]
 fn is_untyped_tail(tail: &Tail<u32>) -> bool
     ensures { result ≡ (kinds.is_arithmetic (tail_of tail.now).1 && expressions.is_untyped (tail_of tail.now).2) }
 {
@@ -65,7 +63,6 @@ fn are_untyped(tails: &[Tail<u32>]) -> bool
 }
 
 /// The line of the first token.
-#[tactic(auto, using(st_tree::specs::Expression::expression_views))]
 pub fn line_of(e: &Expr<u32>) -> u32
     ensures { result ≡ expressions.line_of (expression_of e.now) }
 {
@@ -89,7 +86,6 @@ pub fn line_of(e: &Expr<u32>) -> u32
 }
 
 /// Whether it is an int.
-#[tactic(auto, using(st_tree::specs::Expression::expression_views))]
 pub fn is_int(e: &Expr<u32>) -> bool
     ensures { result ≡ expressions.is_int (expression_of e.now) }
 {
@@ -113,7 +109,6 @@ pub fn is_int(e: &Expr<u32>) -> bool
 }
 
 /// The line and the digits, of an int.
-#[tactic(auto, using(st_tree::specs::Expression::expression_views))]
 pub fn as_int(e: &Expr<u32>) -> Option<(u32, &Text)>
     ensures { MatchOption result (expressions.is_int (expression_of e.now) ≡ false) (λ x. expression_of e.now ≡ Int x.0 x.1.now) }
 {

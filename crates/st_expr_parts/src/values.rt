@@ -71,7 +71,7 @@ fn value_fault(
 }
 
 /// `Type#Name`, with the line of the name.
-#[tactic(auto, using(st_tree::specs::Expression::expression_views))]
+#[tactic(auto, using(crate::proofs::Views::enumerator_view))]
 pub fn enumerator(
     alloc: Global,
     s: &Scope<'_>,

@@ -22,10 +22,26 @@ use st_types::StType;
 use std::alloc::Global;
 
 /// What is found out about a place: the least rule that its root and its selectors break, and its typed tree.
-#[derive(Drop)]
 pub struct CheckedPlace {
     pub least: Option<(Code, u32)>,
     pub place: Place<Note>,
+}
+
+// By hand, so that a drop is one call: a derived one is written out wherever a `?` may need it.
+impl Drop for CheckedPlace {
+    fn drop(self) {
+        drop(self.into_place());
+    }
+}
+
+impl CheckedPlace {
+    /// The typed tree alone.
+    pub fn into_place(self) -> Place<Note>
+        ensures { result ≡ self.place }
+    {
+        let CheckedPlace { least: _, place } = self;
+        place
+    }
 }
 
 /// A place, from the least rule of what it begins with, that as a typed tree, and its selectors.
@@ -59,7 +75,7 @@ pub fn place_root_fault(
 }
 
 /// A place as an expression.
-#[tactic(auto, using(st_tree::specs::Expression::expression_views))]
+#[tactic(auto, using(crate::proofs::Views::place_view))]
 pub fn whole(
     alloc: Global,
     s: &Scope<'_>,
@@ -77,7 +93,7 @@ pub fn whole(
     Ok(Checked {
         told,
         least: earlier(x.least, own),
-        tree: Expr::Place(note, x.place),
+        tree: Expr::Place(note, x.into_place()),
     })
 }
 
@@ -121,7 +137,7 @@ fn reference_fault(line: u32, b: Standing<'_>) -> Option<(Code, u32)>
 }
 
 /// REF of a place.
-#[tactic(auto, using(st_tree::specs::Expression::expression_views))]
+#[tactic(auto, using(crate::proofs::Views::reference_view))]
 pub fn reference(
     alloc: Global,
     s: &Scope<'_>,
@@ -140,6 +156,6 @@ pub fn reference(
     Ok(Checked {
         told,
         least: earlier(earlier(x.least, of_whole), own),
-        tree: Expr::Ref(note, x.place),
+        tree: Expr::Ref(note, x.into_place()),
     })
 }

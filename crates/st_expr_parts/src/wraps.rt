@@ -12,12 +12,12 @@ use st_types::Boxed;
 use std::alloc::Global;
 
 /// In parentheses.
-#[tactic(auto, using(st_tree::specs::Expression::expression_views))]
+#[tactic(auto, using(crate::proofs::Views::paren_view))]
 pub fn enclosed(alloc: Global, line: u32, inner: Checked) -> Result<Checked, NoMemory>
     ensures { IfOk result (λ c. Encloses c line inner) }
 {
-    let Checked { told, least, tree } = inner;
-    let note = noted(alloc, line, &told)?;
+    let note = noted(alloc, line, &inner.told)?;
+    let (told, least, tree) = inner.into_parts();
     let tree = Boxed::new(alloc, tree)?;
     Ok(Checked {
         told,
@@ -27,7 +27,7 @@ pub fn enclosed(alloc: Global, line: u32, inner: Checked) -> Result<Checked, NoM
 }
 
 /// Behind NOT; its own line is that of the operand's first token.
-#[tactic(auto, using(st_tree::specs::Expression::expression_views))]
+#[tactic(auto, using(crate::proofs::Views::not_view))]
 pub fn denied(
     alloc: Global,
     line: u32,
@@ -36,20 +36,20 @@ pub fn denied(
 ) -> Result<Checked, NoMemory>
     ensures { IfOk result (λ c. Denies c line operand_line operand) }
 {
-    let Checked { told, least, tree } = operand;
-    let whole = noted_type(&told);
-    let own = noted_fault(operand_line, &told);
+    let whole = noted_type(&operand.told);
+    let own = noted_fault(operand_line, &operand.told);
     let note = noted(alloc, line, &whole)?;
-    let tree = Boxed::new(alloc, tree)?;
+    let least = earlier(operand.least, own);
+    let tree = Boxed::new(alloc, operand.into_tree())?;
     Ok(Checked {
         told: whole,
-        least: earlier(least, own),
+        least,
         tree: Expr::Not(note, tree),
     })
 }
 
 /// Behind a sign that belongs to no int.
-#[tactic(auto, using(st_tree::specs::Expression::expression_views))]
+#[tactic(auto, using(crate::proofs::Views::negate_view))]
 pub fn negated(
     alloc: Global,
     line: u32,
@@ -58,14 +58,14 @@ pub fn negated(
 ) -> Result<Checked, NoMemory>
     ensures { IfOk result (λ c. Negates c line operand_line operand) }
 {
-    let Checked { told, least, tree } = operand;
-    let whole = negated_type(&told);
-    let own = negated_fault(operand_line, &told);
+    let whole = negated_type(&operand.told);
+    let own = negated_fault(operand_line, &operand.told);
     let note = noted(alloc, line, &whole)?;
-    let tree = Boxed::new(alloc, tree)?;
+    let least = earlier(operand.least, own);
+    let tree = Boxed::new(alloc, operand.into_tree())?;
     Ok(Checked {
         told: whole,
-        least: earlier(least, own),
+        least,
         tree: Expr::Negate(note, tree),
     })
 }

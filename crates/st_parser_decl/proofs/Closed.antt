@@ -1,5 +1,5 @@
 -- Where the machines of expressions and statements want nothing more, they stop before what goes on with no expression.
-use Rattle.std.proofs.Common.{◌≡◌, suc, Bool, true, false, ◌&&◌, List, [], ◌∷◌, ◌++◌, Option, Some, None, length, refl, ◌∙◌, ap, arith}
+use Rattle.std.proofs.Common.{◌≡◌, suc, Bool, true, false, ◌&&◌, List, [], ◌∷◌, ◌++◌, Option, Some, None, length, refl, ◌∙◌, ap, subst, arith}
 use Rattle.st_tree.specs.declared.terminal.Terminal.{Terminal}
 use Rattle.st_tree.specs.declared.terminal.Terminal.TheVariants as x
 use Rattle.st_tree.specs.Grammar.{Lexeme}
@@ -44,19 +44,11 @@ expression-stops (comma_or_close ∷ k) ts ok c = cc
 
 not_hash : (ts : List Lexeme) → NoStep ts → next_terminal ts ≡ Some x.Hash → ⊥
 not_hash [] c h = cc
-not_hash (t ∷ ts) c h = at t.terminal c h
-  where
-    at : (u : Terminal) → IsNoStep u → Some u ≡ Some x.Hash → ⊥
-    at x.Hash c h = c
-    at _ c h = cc
+not_hash (t ∷ ts) c h = let same : t.terminal ≡ x.Hash = cc in subst IsNoStep same c
 
 not_dot : (ts : List Lexeme) → NoStep ts → next_terminal ts ≡ Some x.Dot → ⊥
 not_dot [] c h = cc
-not_dot (t ∷ ts) c h = at t.terminal c h
-  where
-    at : (u : Terminal) → IsNoStep u → Some u ≡ Some x.Dot → ⊥
-    at x.Dot c h = c
-    at _ c h = cc
+not_dot (t ∷ ts) c h = let same : t.terminal ≡ x.Dot = cc in subst IsNoStep same c
 
 not_open : (ts : List Lexeme) → NoStep ts → is_open (next_terminal ts) ≡ false
 not_open [] c = refl

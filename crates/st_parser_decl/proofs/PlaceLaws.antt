@@ -1,5 +1,6 @@
 -- The last heading before a place, sought backwards; the name behind it; the line of a place.
 use Rattle.std.proofs.Common.{◌≡◌, ℕ, zero, suc, ◌-◌, ◌<◌, ◌≤◌, Bool, true, false, List, [], ◌∷◌, Option, Some, None, Result, length, drop, codes, refl, sym, ◌∙◌, ap, subst, arith, if◌then◌else◌}
+use borrow.Author.Tests.{clash}
 use Rattle.std.specs.Option.{option_or, option_map_or}
 use Rattle.std.specs.Prelude.{IfOk}
 use Rattle.std.proofs.lemmas.List.{length-map}
@@ -43,7 +44,7 @@ name_past (u ∷ ts) t e h = let same : u.terminal ≡ t = cc in ap (λ b. if b 
 
 word_alone : (t : Terminal) → is_word t ≡ true → is_modifier t ≡ false
 word_alone x.Word h = refl
-word_alone _ h = cc
+word_alone _ h = absurd (clash h)
 
 abbrev named : List Lexeme → List ℕ → Bool → Bool → List ℕ
 named ts text passed here = if passed then name_at ts else if here then text else codes "-"

@@ -1,5 +1,6 @@
 -- The form of each rule is the form of its phrases.
 use Rattle.std.proofs.Common.{◌≡◌, ℕ, ◌⊎◌, inl, inr, Bool, true, false, ◌||◌, List, [], ◌∷◌, Option, Some, None, refl, sym, ◌∙◌, ap, subst}
+use borrow.Author.Tests.{clash}
 use Rattle.st_types.specs.declared.elem.Elem.{Elem}
 use Rattle.st_types.specs.declared.elem.Elem.TheVariants as kind
 use Rattle.st_tree.specs.declared.terminal.Terminal.{Terminal}
@@ -217,7 +218,7 @@ of_kind = of_one_of w.is_kind (x.Kind kind.Bool) refl kind_of x.Kind _ same (λ 
   where
     same : (u : Terminal) → w.is_kind u ≡ true → x.Kind (kind_of u) ≡ u
     same (x.Kind k) h = refl
-    same _ h = cc
+    same _ h = absurd (clash h)
 
 abbrev Simple : Type 0
 Simple = (ℕ × Elem) ⊎ ((ℕ × List ℕ) ⊎ (ℕ × (Unit {0} × (ℕ × List ℕ))))
@@ -375,7 +376,7 @@ section-words x.Public h = (refl, refl)
 section-words x.Protected h = (refl, refl)
 section-words x.Private h = (refl, refl)
 section-words x.Internal h = (refl, refl)
-section-words _ h = cc
+section-words _ h = absurd (clash h)
 
 words-section : (m : Modifier) → d.is_keep m || d.is_access m ≡ true → w.is_section_word (d.modifier_terminal m) ≡ true
 words-section modifier.Abstract h = cc
@@ -392,7 +393,7 @@ keep-words x.Constant h = (refl, refl)
 keep-words x.Retain h = (refl, refl)
 keep-words x.NonRetain h = (refl, refl)
 keep-words x.Persistent h = (refl, refl)
-keep-words _ h = cc
+keep-words _ h = absurd (clash h)
 
 words-keep : (m : Modifier) → d.is_keep m ≡ true → w.is_keep (d.modifier_terminal m) ≡ true
 words-keep modifier.Constant h = refl
@@ -408,7 +409,7 @@ of_keep_words = of_each _ (of_modifier w.is_keep x.Constant refl _ keep-words wo
 pub class-words : (u : Terminal) → w.is_class_word u ≡ true → (d.is_class_word (modifier_of u) ≡ true) × (d.modifier_terminal (modifier_of u) ≡ u)
 class-words x.Abstract h = (refl, refl)
 class-words x.Final h = (refl, refl)
-class-words _ h = cc
+class-words _ h = absurd (clash h)
 
 words-class : (m : Modifier) → d.is_class_word m ≡ true → w.is_class_word (d.modifier_terminal m) ≡ true
 words-class modifier.Abstract h = refl
@@ -427,7 +428,7 @@ method-words x.Public h = (refl, refl)
 method-words x.Protected h = (refl, refl)
 method-words x.Private h = (refl, refl)
 method-words x.Internal h = (refl, refl)
-method-words _ h = cc
+method-words _ h = absurd (clash h)
 
 words-method : (m : Modifier) → d.is_access m || d.is_method_word m ≡ true → w.is_method_word (d.modifier_terminal m) ≡ true
 words-method modifier.Constant h = cc
@@ -461,7 +462,7 @@ of_sort = of_one_of w.is_section x.Var refl sort_of d.section_terminal LocalSort
     same x.VarInOut h = refl
     same x.VarTemp h = refl
     same x.VarExternal h = refl
-    same _ h = cc
+    same _ h = absurd (clash h)
 
     back : (v : SectionSort) → d.is_global v ≡ false → (w.is_section (d.section_terminal v) ≡ true) × (sort_of (d.section_terminal v) ≡ v)
     back sort.Global h = cc

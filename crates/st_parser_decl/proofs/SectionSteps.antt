@@ -1,5 +1,7 @@
 -- The same for sections of variables.
-use Rattle.std.proofs.Common.{◌≡◌, Bool, true, false, ◌||◌, List, [], ◌∷◌, Some, None, drop, refl, sym, ◌∙◌, ap}
+use Rattle.std.proofs.Common.{◌≡◌, Bool, true, false, ◌||◌, List, [], ◌∷◌, Option, Some, None, drop, refl, sym, ◌∙◌, ap}
+use Rattle.std.specs.Prelude.{is_some, IfSome, IfNone}
+use borrow.Author.Tests.{clash}
 use Rattle.std.specs.Option.{option_map_or}
 use Rattle.st_tree.specs.declared.terminal.Terminal.{Terminal}
 use Rattle.st_tree.specs.declared.terminal.Terminal.TheVariants as x
@@ -84,7 +86,7 @@ modifier_back x.Internal m h = let same : modifier.Internal ≡ m = cc in ap d.m
 modifier_back x.Abstract m h = let same : modifier.Abstract ≡ m = cc in ap d.modifier_terminal (sym same)
 modifier_back x.Final m h = let same : modifier.Final ≡ m = cc in ap d.modifier_terminal (sym same)
 modifier_back x.Override m h = let same : modifier.Override ≡ m = cc in ap d.modifier_terminal (sym same)
-modifier_back _ m h = cc
+modifier_back _ m h = absurd (clash (ap is_some h))
 
 -- ---- the sort of a section
 
@@ -95,7 +97,7 @@ sort_back x.VarOutput s h = let same : sort.Output ≡ s = cc in (ap d.is_global
 sort_back x.VarInOut s h = let same : sort.InOut ≡ s = cc in (ap d.is_global (sym same), ap d.section_terminal (sym same))
 sort_back x.VarTemp s h = let same : sort.Temp ≡ s = cc in (ap d.is_global (sym same), ap d.section_terminal (sym same))
 sort_back x.VarExternal s h = let same : sort.External ≡ s = cc in (ap d.is_global (sym same), ap d.section_terminal (sym same))
-sort_back _ s h = cc
+sort_back _ s h = absurd (clash (ap is_some h))
 
 no_section : (t : Terminal) → sort_of t ≡ None → w.is_section t ≡ false
 no_section x.Var h = cc
@@ -108,6 +110,15 @@ no_section _ h = refl
 
 pub no_sort : (ts : List Lexeme) (t : Terminal) → next_terminal ts ≡ Some t → sort_of t ≡ None → first_in w.is_section ts ≡ false
 no_sort ts t next h = first_is w.is_section t ts next ∙ no_section t h
+
+-- what comes of a terminal
+pub sorted : (ts : List Lexeme) (t : Terminal) (o : Option SectionSort) → next_terminal ts ≡ Some t → o ≡ sort_of t → IfSome o (λ s. (d.is_global s ≡ false) × (next_terminal ts ≡ Some (d.section_terminal s)))
+sorted ts t None next e = tt
+sorted ts t (Some s) next e = let back = sort_back t s (sym e) in (back.0, next ∙ ap Some (sym back.1))
+
+pub unsorted : (ts : List Lexeme) (t : Terminal) (o : Option SectionSort) → next_terminal ts ≡ Some t → o ≡ sort_of t → IfNone o (first_in w.is_section ts ≡ false)
+unsorted ts t None next e = no_sort ts t next (sym e)
+unsorted ts t (Some s) next e = tt
 
 pub sort_begins : (s : SectionSort) → d.is_global s ≡ false → w.is_section (d.section_terminal s) ≡ true
 sort_begins sort.Global h = cc

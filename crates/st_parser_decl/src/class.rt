@@ -14,7 +14,7 @@ use crate::section::{Words, modifiers, sections, vars};
 use crate::types::result_type;
 use plc_text::Items;
 use st_parser_expr::{Cursor, Stop};
-use st_parser_stmt::{body_until, eat, is_next};
+use st_parser_stmt::{Held, body_until, eat, is_next};
 use st_tree::{
     ClassDecl, ClassSort, InterfaceDecl, Member, Method, Modifier, Name, Prototype, Terminal, Used,
 };
@@ -38,9 +38,11 @@ fn prototype(alloc: Global, tokens: &mut Cursor<'_, '_>) -> Result<Prototype<u32
     sign(tokens, Terminal::Method)?;
     let name = name(alloc, tokens)?;
     let result = result_type(alloc, tokens)?;
+    let result = Held::new(result);
     may_semicolon(tokens);
     let sections = sections(alloc, tokens)?;
     sign(tokens, Terminal::EndMethod)?;
+    let result = result.into_inner();
     Ok(Prototype {
         line,
         name,
@@ -101,9 +103,11 @@ fn method(alloc: Global, tokens: &mut Cursor<'_, '_>) -> Result<Method<u32>, Sto
     let modifiers = modifiers(alloc, tokens, Words::Method)?;
     let name = name(alloc, tokens)?;
     let result = result_type(alloc, tokens)?;
+    let result = Held::new(result);
     may_semicolon(tokens);
     let sections = sections(alloc, tokens)?;
     let body = body_until(alloc, tokens, Terminal::EndMethod)?;
+    let result = result.into_inner();
     Ok(Method {
         line,
         modifiers,
@@ -187,8 +191,10 @@ pub fn class(alloc: Global, tokens: &mut Cursor<'_, '_>) -> Result<ClassDecl<u32
     let line = tokens.line();
     sign(tokens, Terminal::Class)?;
     let head = head(alloc, tokens)?;
+    let head = Held::new(head);
     let members = members(alloc, tokens)?;
     sign(tokens, Terminal::EndClass)?;
+    let head = head.into_inner();
     let ClassHead {
         modifiers,
         name,
@@ -216,8 +222,10 @@ pub fn block(alloc: Global, tokens: &mut Cursor<'_, '_>) -> Result<ClassDecl<u32
     let line = tokens.line();
     sign(tokens, Terminal::FunctionBlock)?;
     let head = head(alloc, tokens)?;
+    let head = Held::new(head);
     let members = members(alloc, tokens)?;
     let body = body_until(alloc, tokens, Terminal::EndFunctionBlock)?;
+    let head = head.into_inner();
     let ClassHead {
         modifiers,
         name,

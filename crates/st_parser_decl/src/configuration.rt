@@ -13,7 +13,7 @@ use crate::leaf::{name, sign, text};
 use crate::section::global_sections;
 use plc_text::Items;
 use st_parser_expr::{Cursor, Stop};
-use st_parser_stmt::{eat, is_next};
+use st_parser_stmt::{Held, eat, is_next};
 use st_tree::{Configuration, InstanceSpec, Resource, Setting, SettingValue, TaskSpec, Terminal};
 use std::alloc::Global;
 
@@ -165,7 +165,9 @@ fn resource(alloc: Global, tokens: &mut Cursor<'_, '_>) -> Result<Placement, Sto
     let processor = name(alloc, tokens)?;
     let globals = global_sections(alloc, tokens)?;
     let schedule = tasks(alloc, tokens)?;
+    let schedule = Held::new(schedule);
     sign(tokens, Terminal::EndResource)?;
+    let schedule = schedule.into_inner();
     Ok(Placement {
         resource: Some(Resource {
             name: own,
@@ -200,7 +202,9 @@ pub fn configuration(alloc: Global, tokens: &mut Cursor<'_, '_>) -> Result<Confi
     let name = name(alloc, tokens)?;
     let globals = global_sections(alloc, tokens)?;
     let inner = inner(alloc, tokens)?;
+    let inner = Held::new(inner);
     sign(tokens, Terminal::EndConfiguration)?;
+    let inner = inner.into_inner();
     let Placement { resource, schedule } = inner;
     let Schedule { tasks, instances } = schedule;
     Ok(Configuration {

@@ -10,7 +10,7 @@ use crate::leaf::{may_semicolon, name, sign};
 use crate::section::sections;
 use crate::types::result_type;
 use st_parser_expr::{Cursor, Stop};
-use st_parser_stmt::body_until;
+use st_parser_stmt::{Held, body_until};
 use st_tree::{FunctionDecl, ProgramDecl, Terminal};
 use std::alloc::Global;
 
@@ -22,9 +22,11 @@ pub fn function(alloc: Global, tokens: &mut Cursor<'_, '_>) -> Result<FunctionDe
     sign(tokens, Terminal::Function)?;
     let name = name(alloc, tokens)?;
     let result = result_type(alloc, tokens)?;
+    let result = Held::new(result);
     may_semicolon(tokens);
     let sections = sections(alloc, tokens)?;
     let body = body_until(alloc, tokens, Terminal::EndFunction)?;
+    let result = result.into_inner();
     Ok(FunctionDecl {
         line,
         name,

@@ -14,7 +14,7 @@ use crate::leaf::{names, sign, text};
 use crate::types::{start_value, type_spec};
 use plc_text::{Items, Text};
 use st_parser_expr::{Cursor, Stop};
-use st_parser_stmt::{eat, is_next};
+use st_parser_stmt::{Held, eat, is_next};
 use st_tree::{Item, Modifier, Section, SectionSort, Terminal};
 use std::alloc::Global;
 
@@ -122,12 +122,20 @@ fn item(alloc: Global, tokens: &mut Cursor<'_, '_>) -> Result<Item<u32>, Stop>
     ensures err { IfErr result (Fails w.item tokens.old) }
 {
     let marks = tokens.marks(alloc)?;
+    let marks = Held::new(marks);
     let names = names(alloc, tokens)?;
     let address = address(alloc, tokens)?;
+    let address = Held::new(address);
     sign(tokens, Terminal::Colon)?;
     let kind = type_spec(alloc, tokens)?;
+    let kind = Held::new(kind);
     let initial = start_value(alloc, tokens)?;
+    let initial = Held::new(initial);
     sign(tokens, Terminal::Semicolon)?;
+    let marks = marks.into_inner();
+    let address = address.into_inner();
+    let kind = kind.into_inner();
+    let initial = initial.into_inner();
     Ok(Item {
         marks,
         names,

@@ -12,7 +12,7 @@ use crate::leaf::{may_semicolon, name, names, sign};
 use crate::types::{start_value, type_spec};
 use plc_text::Items;
 use st_parser_expr::{Cursor, Stop};
-use st_parser_stmt::is_next;
+use st_parser_stmt::{Held, is_next};
 use st_tree::{Decl, FieldGroup, Terminal, TypeBody, TypeDecl};
 use std::alloc::Global;
 
@@ -24,8 +24,12 @@ fn field_group(alloc: Global, tokens: &mut Cursor<'_, '_>) -> Result<FieldGroup<
     let names = names(alloc, tokens)?;
     sign(tokens, Terminal::Colon)?;
     let kind = type_spec(alloc, tokens)?;
+    let kind = Held::new(kind);
     let initial = start_value(alloc, tokens)?;
+    let initial = Held::new(initial);
     sign(tokens, Terminal::Semicolon)?;
+    let kind = kind.into_inner();
+    let initial = initial.into_inner();
     Ok(FieldGroup {
         names,
         kind,

@@ -11,7 +11,7 @@ ghost use Rattle.st_parser_decl.specs.Private.Promises.{Parses, Fails};
 use crate::leaf::{expression, sign, text, used, value};
 use plc_text::Items;
 use st_parser_expr::{Cursor, Stop};
-use st_parser_stmt::{eat, is_next};
+use st_parser_stmt::{Held, eat, is_next};
 use st_tree::{ArraySpec, Bounds, Init, SimpleSpec, Terminal, TypeSpec};
 use std::alloc::Global;
 
@@ -20,8 +20,10 @@ fn range(alloc: Global, tokens: &mut Cursor<'_, '_>) -> Result<Bounds<u32>, Stop
     ensures err { IfErr result (Fails w.range tokens.old) }
 {
     let low = expression(alloc, tokens)?;
+    let low = Held::new(low);
     sign(tokens, Terminal::Range)?;
     let high = expression(alloc, tokens)?;
+    let low = low.into_inner();
     Ok(Bounds { low, high })
 }
 

@@ -1,5 +1,6 @@
 -- What each rule's function has to show.
-use Rattle.std.proofs.Common.{◌≡◌, ℕ, suc, ◌<◌, ◌≤◌, true, false, List, [], ◌∷◌, ◌++◌, Option, Some, None, length, drop, refl, sym, ◌∙◌, ap, subst, arith}
+use Rattle.std.proofs.Common.{◌≡◌, ℕ, suc, ◌<◌, ◌≤◌, Bool, true, false, List, [], ◌∷◌, ◌++◌, Option, Some, None, length, drop, refl, sym, ◌∙◌, ap, subst, arith}
+use borrow.Author.Tests.{clash}
 use Rattle.st_types.specs.declared.elem.Elem.{Elem}
 use Rattle.st_types.specs.declared.elem.Elem.TheVariants as kind
 use Rattle.st_tree.specs.declared.terminal.Terminal.{Terminal}
@@ -17,6 +18,7 @@ use Rattle.st_tree.specs.Expression.{Expression, Expressions, no_expressions, ex
 use Rattle.st_tree.specs.Grammar.{Lexeme, At, NotNext, ◌⋆◌, lexeme, sign, spelled, word, operator_of, level, literal, root, expression, selectors, selector, first_expression, more_expressions, arguments, more_arguments, argument}
 use Rattle.st_parser_expr.specs.declared.stop.Stop.{Stop}
 use Rattle.st_parser_expr.specs.declared.stop.Stop.TheVariants.{Left, NoMemory}
+use Rattle.st_parser_expr.specs.declared.stop.Naming.{Naming}
 use Rattle.st_parser_expr.specs.declared.stop.Naming.TheVariants as naming
 use Rattle.st_parser_expr.specs.Private.Machine.{Follow, calls, reference_end, arguments_end, operand, more_tails, selecting, behind_name, root_next, behind_kind, comma_or_bracket, first_argument, argument_next, behind_argument, comma_or_close, State, go_on, on_root, machine, NoOperator, NoSelector, NoNaming, IsNoNaming, Looser}
 use Rattle.st_parser_expr.specs.Private.Promises.{next_terminal, TextTaken, LineOf, is_hash, is_enumerator_by, is_enumerator, naming_behind, naming_by, naming_of, is_root, Fails, Passes, Parses, Selects, SelectFails, same, for_expr, for_operand, for_tails, for_selectors, for_indices, for_more_indices, for_arguments, for_argument, for_more, for_root, for_name, for_literal, for_close, for_reference}
@@ -125,8 +127,8 @@ enumerator_by (Some x.Word) o' h = (refl, hash o' h)
   where
     hash : (o' : Option Terminal) → is_hash o' ≡ true → o' ≡ Some x.Hash
     hash (Some x.Hash) h = refl
-    hash _ h = cc
-enumerator_by _ o' h = cc
+    hash _ h = absurd (clash h)
+enumerator_by _ o' h = absurd (clash h)
 
 pub enumerator_word : (ts : List Lexeme) → is_enumerator ts ≡ true → next_terminal ts ≡ Some x.Word
 enumerator_word ts h = (enumerator_by (next_terminal ts) (next_terminal (drop 1 ts)) h).0
@@ -252,7 +254,7 @@ fails-place_root (t ∷ ts) (Left n) h f = absurd (at t.terminal h (f []))
     at x.Word h e = let bad : true ≡ false = ap (λ q. q.0) (sym (machine-done ts) ∙ e) in cc
     at x.This h e = let bad : true ≡ false = ap (λ q. q.0) (sym (machine-done ts) ∙ e) in cc
     at x.Super h e = let bad : true ≡ false = ap (λ q. q.0) (sym (machine-done ts) ∙ e) in cc
-    at _ h e = cc
+    at _ h e = clash h
 
 abbrev pub behind_open : State → State
 behind_open k = root_next ∷ selecting reference_end ∷ k
@@ -430,21 +432,29 @@ arguments-read found ts m rest so end = record {
 
 -- ---- one argument
 
+abbrev is_input : Naming → Bool
+is_input naming.Input = true
+is_input _ = false
+
+abbrev is_output : Naming → Bool
+is_output naming.Output = true
+is_output _ = false
+
 naming-input : (o o' : Option Terminal) → naming_by o o' ≡ naming.Input → (o ≡ Some x.Word) × (o' ≡ Some x.Assign)
 naming-input (Some x.Word) o' h = (refl, behind o' h)
   where
     behind : (o' : Option Terminal) → naming_behind o' ≡ naming.Input → o' ≡ Some x.Assign
     behind (Some x.Assign) h = refl
-    behind _ h = cc
-naming-input _ o' h = cc
+    behind _ h = absurd (clash (ap is_input h))
+naming-input _ o' h = absurd (clash (ap is_input h))
 
 naming-output : (o o' : Option Terminal) → naming_by o o' ≡ naming.Output → (o ≡ Some x.Word) × (o' ≡ Some x.Sends)
 naming-output (Some x.Word) o' h = (refl, behind o' h)
   where
     behind : (o' : Option Terminal) → naming_behind o' ≡ naming.Output → o' ≡ Some x.Sends
     behind (Some x.Sends) h = refl
-    behind _ h = cc
-naming-output _ o' h = cc
+    behind _ h = absurd (clash (ap is_output h))
+naming-output _ o' h = absurd (clash (ap is_output h))
 
 pub input_word : (ts : List Lexeme) → naming_of ts ≡ naming.Input → next_terminal ts ≡ Some x.Word
 input_word ts h = (naming-input (next_terminal ts) (next_terminal (drop 1 ts)) h).0

@@ -1,5 +1,6 @@
 -- What the functions over initial values have to show.
 use Rattle.std.proofs.Common.{◌≡◌, ℕ, suc, ◌<◌, ◌≤◌, true, false, ◌&&◌, List, [], ◌∷◌, ◌++◌, Option, Some, None, length, drop, refl, sym, ◌∙◌, ap, subst, arith}
+use borrow.Author.Tests.{clash}
 use Rattle.st_tree.specs.declared.terminal.Terminal.{Terminal}
 use Rattle.st_tree.specs.declared.terminal.Terminal.TheVariants as x
 use Rattle.st_tree.specs.declared.initial.Part.{Part as CodePart}
@@ -53,12 +54,12 @@ fields-next (Some x.Open) b c h = second b c h
   where
     third : (c : Option Terminal) → is_assign c ≡ true → c ≡ Some x.Assign
     third (Some x.Assign) h = refl
-    third _ h = cc
+    third _ h = absurd (clash h)
 
     second : (b c : Option Terminal) → is_word b && is_assign c ≡ true → (Some x.Open ≡ Some x.Open) × (b ≡ Some x.Word) × (c ≡ Some x.Assign)
     second (Some x.Word) c h = (refl, refl, third c h)
-    second _ c h = cc
-fields-next _ b c h = cc
+    second _ c h = absurd (clash h)
+fields-next _ b c h = absurd (clash h)
 
 pub fields-open : (ts : List Lexeme) → fields_at ts ≡ true → next_terminal ts ≡ Some x.Open
 fields-open ts h = (fields-next (next_terminal ts) (next_terminal (drop 1 ts)) (next_terminal (drop 2 ts)) h).0
@@ -104,8 +105,8 @@ repetition-next (Some x.Int) b h = (refl, second b h)
   where
     second : (b : Option Terminal) → is_open b ≡ true → b ≡ Some x.Open
     second (Some x.Open) h = refl
-    second _ h = cc
-repetition-next _ b h = cc
+    second _ h = absurd (clash h)
+repetition-next _ b h = absurd (clash h)
 
 pub repetition-int : (ts : List Lexeme) → repetition_at ts ≡ true → next_terminal ts ≡ Some x.Int
 repetition-int ts h = (repetition-next (next_terminal ts) (next_terminal (drop 1 ts)) h).0

@@ -1,5 +1,6 @@
 -- What the grammar spells, the machine passes.
 use Rattle.std.proofs.Common.{◌≡◌, ℕ, suc, Bool, true, false, ◌&&◌, List, [], ◌∷◌, Option, Some, None, length, drop, refl, sym, ◌∙◌, ap, subst}
+use borrow.Author.Tests.{clash}
 use Rattle.st_tree.specs.declared.terminal.Terminal.{Terminal}
 use Rattle.st_tree.specs.declared.terminal.Terminal.TheVariants as x
 use Rattle.st_tree.specs.declared.expression.Literal.{Literal}
@@ -95,7 +96,7 @@ started-same x.Case K o o' h = refl
 started-same x.For K o o' h = refl
 started-same x.While K o o' h = refl
 started-same x.Repeat K o o' h = refl
-started-same _ K o o' h = cc
+started-same _ K o o' h = absurd (clash h)
 
 no_statement : (ts : List Lexeme) → starts_statement (next_terminal ts) ≡ false → NoStatement ts
 no_statement [] h = tt
@@ -181,7 +182,7 @@ case-statement K (t ∷ ts) h free = at t.terminal h free
     at x.For h free = refl
     at x.While h free = refl
     at x.Repeat h free = refl
-    at _ h free = cc
+    at _ h free = absurd (clash h)
 
 field-label : (K : State) (ts : List Lexeme) → ends_const (next_terminal ts) ≡ true → machine (case_field ∷ K) ts ≡ machine (behind_label ∷ K) ts
 field-label K [] h = cc
@@ -192,7 +193,7 @@ field-label K (t ∷ ts) h = at t.terminal h
     at x.Range h = refl
     at x.Comma h = refl
     at x.Colon h = refl
-    at _ h = cc
+    at _ h = absurd (clash h)
 
 pub tail-end : (K : State) (ts : List Lexeme) → ends_const (next_terminal ts) ≡ true → machine (const_tail ∷ K) ts ≡ machine K ts
 tail-end K [] h = cc
@@ -202,7 +203,7 @@ tail-end K (t ∷ ts) h = ap (λ o. go_on o (λ K'. machine K' ts) (accepts K, s
     at x.Range h other = refl
     at x.Comma h other = refl
     at x.Colon h other = refl
-    at _ h other = cc
+    at _ h other = absurd (clash h)
 
 dot-label : (K : State) (ts : List Lexeme) → is_word (next_terminal ts) && ends_const (next_terminal (drop 1 ts)) ≡ true → machine (case_dot ∷ K) ts ≡ machine (word_next ∷ behind_label ∷ K) ts
 dot-label K [] h = cc
@@ -213,7 +214,7 @@ dot-label K (t ∷ ts) h = at t refl h
       where
         by : (v : Terminal) → u.terminal ≡ v → is_word (Some v) && ends_const (next_terminal ts) ≡ true → machine (case_dot ∷ K) (u ∷ ts) ≡ machine (word_next ∷ behind_label ∷ K) (u ∷ ts)
         by x.Word is h = on-sign (case_dot ∷ K) x.Word (u ∷ ts) ts (u, is, refl) ∙ field-label K ts h ∙ sym (on-need (behind_label ∷ K) x.Word (refl, tt) (u ∷ ts) ts (u, is, refl))
-        by _ is h = cc
+        by _ is h = absurd (clash h)
 
 word-label : (K : State) (ts : List Lexeme) → label_behind (next_terminal ts) (next_terminal (drop 1 ts)) (next_terminal (drop 2 ts)) ≡ true → machine (case_word ∷ K) ts ≡ machine (const_tail ∷ behind_label ∷ K) ts
 word-label K [] h = cc
@@ -227,7 +228,7 @@ word-label K (t ∷ ts) h = at t.terminal h
     at x.Range h = refl
     at x.Comma h = refl
     at x.Colon h = refl
-    at _ h = cc
+    at _ h = absurd (clash h)
 
 pub case-label : (K : State) (ts : List Lexeme) → label_at ts ≡ true → machine (case_body ∷ K) ts ≡ machine (const_next ∷ behind_label ∷ K) ts
 case-label K [] h = cc
@@ -239,7 +240,7 @@ case-label K (t ∷ ts) h = at t.terminal h
     at x.Int h = refl
     at x.Minus h = refl
     at (x.Kind k) h = refl
-    at _ h = cc
+    at _ h = absurd (clash h)
 
 pub first-label : (K : State) (ts : List Lexeme) → starts_const (next_terminal ts) ≡ true → machine (first_case ∷ K) ts ≡ machine (const_next ∷ behind_label ∷ K) ts
 first-label K [] h = cc
@@ -252,7 +253,7 @@ first-label K (t ∷ ts) h = at t.terminal h
     at x.Int h = refl
     at x.Minus h = refl
     at (x.Kind k) h = refl
-    at _ h = cc
+    at _ h = absurd (clash h)
 
 pub first-end : (K : State) (ts : List Lexeme) → starts_const (next_terminal ts) ≡ false → machine (first_case ∷ K) ts ≡ machine (otherwise_next x.EndCase tt (refl, tt) ∷ K) ts
 first-end K [] h = refl
@@ -294,19 +295,19 @@ place_no_const : (o : Option Terminal) → ends_place o ≡ true → ends_const 
 place_no_const (Some x.Assign) h = refl
 place_no_const (Some x.Attempt) h = refl
 place_no_const (Some x.Open) h = refl
-place_no_const _ h = cc
+place_no_const _ h = absurd (clash h)
 
 place_no_label : (o b c : Option Terminal) → ends_place o ≡ true → label_behind o b c ≡ false
 place_no_label (Some x.Assign) b c h = refl
 place_no_label (Some x.Attempt) b c h = refl
 place_no_label (Some x.Open) b c h = refl
-place_no_label _ b c h = cc
+place_no_label _ b c h = absurd (clash h)
 
 const_label : (o b c : Option Terminal) → ends_const o ≡ true → label_behind o b c ≡ true
 const_label (Some x.Range) b c h = refl
 const_label (Some x.Comma) b c h = refl
 const_label (Some x.Colon) b c h = refl
-const_label _ b c h = cc
+const_label _ b c h = absurd (clash h)
 
 -- past one lexeme
 label-first : (s : Terminal) (ts m : List Lexeme) → sign s ts m → label_at ts ≡ label_by (Some s) (next_terminal m) (next_terminal (drop 1 m)) (next_terminal (drop 2 m))
@@ -432,7 +433,7 @@ label_over _ = false
 over-ends : (o : Option Terminal) → label_over o ≡ true → ends_const o ≡ true
 over-ends (Some x.Comma) h = refl
 over-ends (Some x.Colon) h = refl
-over-ends _ h = cc
+over-ends _ h = absurd (clash h)
 
 pub machine-over : (K : State) (ts : List Lexeme) → label_over (next_terminal ts) ≡ true → machine (behind_label ∷ K) ts ≡ machine (label_more ∷ K) ts
 machine-over K [] h = cc
@@ -441,7 +442,7 @@ machine-over K (t ∷ ts) h = at t.terminal h
     at : (u : Terminal) → label_over (Some u) ≡ true → go_on (on_behind_label u K None) (λ K'. machine K' ts) (false, suc (length ts)) ≡ go_on (advance (label_more ∷ K) u) (λ K'. machine K' ts) (false, suc (length ts))
     at x.Comma h = refl
     at x.Colon h = refl
-    at _ h = cc
+    at _ h = absurd (clash h)
 
 pub passes-label : (c : Label ℕ) (K : State) (ts rest : List Lexeme) → label c ts rest → label_over (next_terminal rest) ≡ true → machine (const_next ∷ behind_label ∷ K) ts ≡ machine (label_more ∷ K) rest
 passes-label c K ts rest (m, h, hr) ok = passes-const c.first (behind_label ∷ K) ts m h (range-ends c.last m rest hr (over-ends (next_terminal rest) ok)) ∙ at c.last hr

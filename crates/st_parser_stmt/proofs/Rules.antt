@@ -1,5 +1,6 @@
 -- What each rule's function has to show.
 use Rattle.std.proofs.Common.{◌≡◌, ℕ, suc, ◌<◌, ◌≤◌, true, false, List, [], ◌∷◌, ◌++◌, Option, Some, None, length, drop, refl, sym, ◌∙◌, ap, subst, arith, length-append}
+use borrow.Author.Tests.{clash}
 use Rattle.std.specs.Option.{option_map}
 use Rattle.st_types.specs.declared.elem.Elem.{Elem}
 use Rattle.st_tree.specs.declared.terminal.Terminal.{Terminal}
@@ -138,7 +139,7 @@ root-fails (t ∷ ts) (Left n) h z = absurd (at t.terminal h (z []))
     at x.Word h z = let bad : true ≡ false = ap (λ q. q.0) (sym (r.machine-done ts) ∙ z) in cc
     at x.This h z = let bad : true ≡ false = ap (λ q. q.0) (sym (r.machine-done ts) ∙ z) in cc
     at x.Super h z = let bad : true ≡ false = ap (λ q. q.0) (sym (r.machine-done ts) ∙ z) in cc
-    at _ h z = cc
+    at _ h z = absurd (clash h)
 
 pub place-fails : (p : Root ℕ) (ts m : List Lexeme) (stop : Stop) → ep.Parses (root p) ep.for_root ep.same ts m → SelectFails m stop → Fails for_statement ts stop
 place-fails p ts m (Left n) rr h = λ K. passes-root p K ts m rr.spelled ∙ inside-fails m place_state (behind_place ∷ K) n (h e.elsewhere [])
@@ -912,7 +913,7 @@ jump-default (t ∷ ts) stop h a b c = absurd (at t.terminal h a b c)
     at x.Exit h a b c = a refl
     at x.Continue h a b c = b refl
     at x.Return h a b c = c refl
-    at _ h a b c = cc
+    at _ h a b c = absurd (clash h)
 
 pub sign-next : (s : Terminal) (ts m : List Lexeme) → sign s ts m → next_terminal ts ≡ Some s
 sign-next s ts m (t, is, w) = ap next_terminal w ∙ ap Some is

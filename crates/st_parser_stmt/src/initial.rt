@@ -10,7 +10,7 @@ ghost use Rattle.st_parser_stmt.specs.Private.Promises.{Parses, Fails, same};
 
 use crate::leaf::{eat, expression, is_next, sign, word};
 use plc_text::Items;
-use st_parser_expr::{Cursor, Stop};
+use st_parser_expr::{Cursor, Held, Stop};
 use st_tree::{FieldInit, Init, Part, Terminal};
 use std::alloc::Global;
 
@@ -122,7 +122,9 @@ fn part(alloc: Global, tokens: &mut Cursor<'_, '_>) -> Result<Part<u32>, Stop>
         let count = tokens.take_text(alloc)?;
         tokens.bump();
         let value = initial_value(alloc, tokens)?;
+        let held = Held::new(value);
         sign(tokens, Terminal::Close)?;
+        let value = held.into_inner();
         Ok(Part::Repeated(line, count, value))
     } else {
         let value = initial_value(alloc, tokens)?;

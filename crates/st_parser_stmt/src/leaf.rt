@@ -9,11 +9,10 @@ ghost use Rattle.st_parser_expr.specs.Private.Promises as e;
 ghost use Rattle.st_parser_stmt.specs.Private.Promises as m;
 ghost use Rattle.st_parser_stmt.specs.Private.Promises.{Parses, Fails, same};
 
-use crate::held::Held;
 use crate::number::is_same;
 use plc_text::{Items, Text};
 use st_parser_expr as expr;
-use st_parser_expr::{Cursor, Stop};
+use st_parser_expr::{Cursor, Held, Stop};
 use st_tree::{Argument, Expr, Literal, Place, Terminal};
 use std::alloc::Global;
 
@@ -116,13 +115,13 @@ pub fn place(alloc: Global, tokens: &mut Cursor<'_, '_>) -> Result<Place<u32>, S
     Ok(Place { root, selectors })
 }
 
-/// Whether a statement may begin with what comes next.
-pub fn is_statement(tokens: &Cursor<'_, '_>) -> bool
-    ensures { result ≡ m.starts_statement (e.next_terminal tokens.now) }
+/// Whether a statement may begin with this terminal.
+fn starts_statement(terminal: Terminal) -> bool
+    ensures { result ≡ m.starts_statement (Some terminal) }
 {
-    match tokens.peek() {
-        Some(
-            Terminal::Semicolon
+    matches!(
+        terminal,
+        Terminal::Semicolon
             | Terminal::Word
             | Terminal::This
             | Terminal::Super
@@ -133,8 +132,16 @@ pub fn is_statement(tokens: &Cursor<'_, '_>) -> bool
             | Terminal::Case
             | Terminal::For
             | Terminal::While
-            | Terminal::Repeat,
-        ) => true,
-        _ => false,
+            | Terminal::Repeat
+    )
+}
+
+/// Whether a statement may begin with what comes next.
+pub fn is_statement(tokens: &Cursor<'_, '_>) -> bool
+    ensures { result ≡ m.starts_statement (e.next_terminal tokens.now) }
+{
+    match tokens.peek() {
+        Some(next) => starts_statement(next),
+        None => false,
     }
 }

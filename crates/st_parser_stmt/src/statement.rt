@@ -11,13 +11,12 @@ ghost use Rattle.st_parser_expr.specs.Private.Promises as e;
 ghost use Rattle.st_parser_stmt.specs.Private.Promises as m;
 ghost use Rattle.st_parser_stmt.specs.Private.Promises.{Parses, Fails, same};
 
-use crate::held::Held;
 use crate::label::{is_const, is_label, labels};
 use crate::leaf::{
     arguments, eat, expression, expression_then, is_next, is_statement, place, sign, word,
 };
 use plc_text::{Items, Text};
-use st_parser_expr::{Cursor, Stop};
+use st_parser_expr::{Cursor, Held, Stop};
 use st_tree::{Branch, Case, Expr, Otherwise, Stmt, Terminal};
 use std::alloc::Global;
 
@@ -29,16 +28,19 @@ fn simple(alloc: Global, tokens: &mut Cursor<'_, '_>) -> Result<Stmt<u32>, Stop>
 {
     let line = tokens.line();
     let place = place(alloc, tokens)?;
+    let place = Held::new(place);
     match tokens.peek() {
         Some(Terminal::Assign) => {
             tokens.bump();
             let value = expression_then(alloc, tokens, Terminal::Semicolon)?;
+            let place = place.into_inner();
             let value = value.into_inner();
             Ok(Stmt::Assign(line, line, place, value))
         }
         Some(Terminal::Attempt) => {
             tokens.bump();
             let value = expression_then(alloc, tokens, Terminal::Semicolon)?;
+            let place = place.into_inner();
             let value = value.into_inner();
             Ok(Stmt::Attempt(line, line, place, value))
         }
@@ -46,6 +48,7 @@ fn simple(alloc: Global, tokens: &mut Cursor<'_, '_>) -> Result<Stmt<u32>, Stop>
             tokens.bump();
             let arguments = arguments(alloc, tokens)?;
             sign(tokens, Terminal::Semicolon)?;
+            let place = place.into_inner();
             Ok(Stmt::Call(line, line, place, arguments))
         }
         _ => Err(Stop::Left(tokens.left())),

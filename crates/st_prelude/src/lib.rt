@@ -2,8 +2,6 @@
 #![tactic(auto)]
 
 mod prelude;
-#[cfg(test)]
-mod tests;
 mod text;
 
 pub use prelude::with_prelude;

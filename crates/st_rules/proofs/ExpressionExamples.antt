@@ -31,7 +31,7 @@ use Rattle.st_rules.specs.Kinds.{operation_type, unary_type, is_assignable, is_b
 use Rattle.st_rules.specs.Scope.{Scope, sought, type_qualifier, dot_qualifier, instance_variable, is_text_under}
 use Rattle.st_rules.specs.Places.{root_standing, part_of, selected, placed, is_fixed, part_faults, root_faults, selector_faults, whole_faults, target_faults, too_many_selectors}
 use Rattle.st_rules.specs.Calls.{callee, conversion_named, block_parameters, call_type, call_without_result, call_matches, callee_faults, value_unsuited, output_unsuited, asked_by, matched_type, is_on_super}
-use Rattle.st_rules.specs.Expressions.{type_of, faults, expression_faults, operands_unsuited, operand_unsuited, operand_asked, front_asked, given_unsuited, called_root_faults}
+use Rattle.st_rules.specs.Expressions.{type_of, faults, expression_faults, operands_unsuited, unsuited_line, operand_unsuited, operand_asked, front_asked, given_unsuited, called_root_faults}
 use Rattle.st_rules.specs.Statements.{body_faults}
 use Rattle.st_rules.proofs.TypeLaws.{type_decided}
 
@@ -100,77 +100,77 @@ dotted name field = tree.Place 1 (root.Name 1 name) (tree.selector_then (tree.Fi
 
 -- u + v of USINT and UINT is UINT
 widened : type_of here Anything (tree.Chain 1 (bare (codes "U")) (tree.tail_then 1 operator.Plus (bare (codes "V")) tree.no_tails)) ≡ Some (Elementary elem.Uint)
-unfolding here names class simple member int bare dotted sought type_qualifier dot_qualifier instance_variable is_text_under chain lookup common_kind operation_type unary_type is_assignable is_bindable int_type int_faults negative_faults typed_literal_faults number_asked negative_type asked_of root_standing part_of selected placed is_fixed part_faults root_faults selector_faults whole_faults target_faults too_many_selectors callee conversion_named block_parameters call_type call_without_result call_matches callee_faults value_unsuited output_unsuited asked_by matched_type is_on_super operands_unsuited operand_unsuited operand_asked front_asked given_unsuited called_root_faults
+unfolding here names class simple member int bare dotted sought type_qualifier dot_qualifier instance_variable is_text_under chain lookup common_kind operation_type unary_type is_assignable is_bindable int_type int_faults negative_faults typed_literal_faults number_asked negative_type asked_of root_standing part_of selected placed is_fixed part_faults root_faults selector_faults whole_faults target_faults too_many_selectors callee conversion_named block_parameters call_type call_without_result call_matches callee_faults value_unsuited output_unsuited asked_by matched_type is_on_super operands_unsuited unsuited_line operand_unsuited operand_asked front_asked given_unsuited called_root_faults
 widened = refl
 
 -- 1 + 300 + u: each int takes USINT, which 300 does not fit
 asked_from_behind : least (faults here Anything (tree.Chain 1 (int (codes "1")) (tree.tail_then 1 operator.Plus (tree.Int 2 (codes "300")) (tree.tail_then 1 operator.Plus (bare (codes "U")) tree.no_tails)))) ≡ Some (E13, 2)
-unfolding here names class simple member int bare dotted sought type_qualifier dot_qualifier instance_variable is_text_under chain lookup common_kind operation_type unary_type is_assignable is_bindable int_type int_faults negative_faults typed_literal_faults number_asked negative_type asked_of root_standing part_of selected placed is_fixed part_faults root_faults selector_faults whole_faults target_faults too_many_selectors callee conversion_named block_parameters call_type call_without_result call_matches callee_faults value_unsuited output_unsuited asked_by matched_type is_on_super operands_unsuited operand_unsuited operand_asked front_asked given_unsuited called_root_faults
+unfolding here names class simple member int bare dotted sought type_qualifier dot_qualifier instance_variable is_text_under chain lookup common_kind operation_type unary_type is_assignable is_bindable int_type int_faults negative_faults typed_literal_faults number_asked negative_type asked_of root_standing part_of selected placed is_fixed part_faults root_faults selector_faults whole_faults target_faults too_many_selectors callee conversion_named block_parameters call_type call_without_result call_matches callee_faults value_unsuited output_unsuited asked_by matched_type is_on_super operands_unsuited unsuited_line operand_unsuited operand_asked front_asked given_unsuited called_root_faults
 asked_from_behind = refl
 
 -- an untyped value of a BOOL: 1 will do, 2 will not
 one_is_bool : least (expression_faults here (Wanted (Elementary elem.Bool)) (int (codes "1"))) ≡ None
-unfolding here names class simple member int bare dotted sought type_qualifier dot_qualifier instance_variable is_text_under chain lookup common_kind operation_type unary_type is_assignable is_bindable int_type int_faults negative_faults typed_literal_faults number_asked negative_type asked_of root_standing part_of selected placed is_fixed part_faults root_faults selector_faults whole_faults target_faults too_many_selectors callee conversion_named block_parameters call_type call_without_result call_matches callee_faults value_unsuited output_unsuited asked_by matched_type is_on_super operands_unsuited operand_unsuited operand_asked front_asked given_unsuited called_root_faults
+unfolding here names class simple member int bare dotted sought type_qualifier dot_qualifier instance_variable is_text_under chain lookup common_kind operation_type unary_type is_assignable is_bindable int_type int_faults negative_faults typed_literal_faults number_asked negative_type asked_of root_standing part_of selected placed is_fixed part_faults root_faults selector_faults whole_faults target_faults too_many_selectors callee conversion_named block_parameters call_type call_without_result call_matches callee_faults value_unsuited output_unsuited asked_by matched_type is_on_super operands_unsuited unsuited_line operand_unsuited operand_asked front_asked given_unsuited called_root_faults
 one_is_bool = simp same_bool refl
 
 two_is_not : least (expression_faults here (Wanted (Elementary elem.Bool)) (tree.Paren 1 (tree.Int 2 (codes "2")))) ≡ Some (E07, 1)
-unfolding here names class simple member int bare dotted sought type_qualifier dot_qualifier instance_variable is_text_under chain lookup common_kind operation_type unary_type is_assignable is_bindable int_type int_faults negative_faults typed_literal_faults number_asked negative_type asked_of root_standing part_of selected placed is_fixed part_faults root_faults selector_faults whole_faults target_faults too_many_selectors callee conversion_named block_parameters call_type call_without_result call_matches callee_faults value_unsuited output_unsuited asked_by matched_type is_on_super operands_unsuited operand_unsuited operand_asked front_asked given_unsuited called_root_faults
+unfolding here names class simple member int bare dotted sought type_qualifier dot_qualifier instance_variable is_text_under chain lookup common_kind operation_type unary_type is_assignable is_bindable int_type int_faults negative_faults typed_literal_faults number_asked negative_type asked_of root_standing part_of selected placed is_fixed part_faults root_faults selector_faults whole_faults target_faults too_many_selectors callee conversion_named block_parameters call_type call_without_result call_matches callee_faults value_unsuited output_unsuited asked_by matched_type is_on_super operands_unsuited unsuited_line operand_unsuited operand_asked front_asked given_unsuited called_root_faults
 two_is_not = simp dint_no_bool refl
 
 -- RUN is an enumerator, M.RUN too, M.GO is none
 enumerator : type_of here Anything (bare (codes "RUN")) ≡ Some (Enumeration 0)
-unfolding here names class simple member int bare dotted sought type_qualifier dot_qualifier instance_variable is_text_under chain lookup common_kind operation_type unary_type is_assignable is_bindable int_type int_faults negative_faults typed_literal_faults number_asked negative_type asked_of root_standing part_of selected placed is_fixed part_faults root_faults selector_faults whole_faults target_faults too_many_selectors callee conversion_named block_parameters call_type call_without_result call_matches callee_faults value_unsuited output_unsuited asked_by matched_type is_on_super operands_unsuited operand_unsuited operand_asked front_asked given_unsuited called_root_faults
+unfolding here names class simple member int bare dotted sought type_qualifier dot_qualifier instance_variable is_text_under chain lookup common_kind operation_type unary_type is_assignable is_bindable int_type int_faults negative_faults typed_literal_faults number_asked negative_type asked_of root_standing part_of selected placed is_fixed part_faults root_faults selector_faults whole_faults target_faults too_many_selectors callee conversion_named block_parameters call_type call_without_result call_matches callee_faults value_unsuited output_unsuited asked_by matched_type is_on_super operands_unsuited unsuited_line operand_unsuited operand_asked front_asked given_unsuited called_root_faults
 enumerator = refl
 
 qualified_enumerator : type_of here Anything (dotted (codes "M") (codes "RUN")) ≡ Some (Enumeration 0)
-unfolding here names class simple member int bare dotted sought type_qualifier dot_qualifier instance_variable is_text_under chain lookup common_kind operation_type unary_type is_assignable is_bindable int_type int_faults negative_faults typed_literal_faults number_asked negative_type asked_of root_standing part_of selected placed is_fixed part_faults root_faults selector_faults whole_faults target_faults too_many_selectors callee conversion_named block_parameters call_type call_without_result call_matches callee_faults value_unsuited output_unsuited asked_by matched_type is_on_super operands_unsuited operand_unsuited operand_asked front_asked given_unsuited called_root_faults
+unfolding here names class simple member int bare dotted sought type_qualifier dot_qualifier instance_variable is_text_under chain lookup common_kind operation_type unary_type is_assignable is_bindable int_type int_faults negative_faults typed_literal_faults number_asked negative_type asked_of root_standing part_of selected placed is_fixed part_faults root_faults selector_faults whole_faults target_faults too_many_selectors callee conversion_named block_parameters call_type call_without_result call_matches callee_faults value_unsuited output_unsuited asked_by matched_type is_on_super operands_unsuited unsuited_line operand_unsuited operand_asked front_asked given_unsuited called_root_faults
 qualified_enumerator = refl
 
 no_enumerator : least (faults here Anything (dotted (codes "M") (codes "GO"))) ≡ Some (E05, 2)
-unfolding here names class simple member int bare dotted sought type_qualifier dot_qualifier instance_variable is_text_under chain lookup common_kind operation_type unary_type is_assignable is_bindable int_type int_faults negative_faults typed_literal_faults number_asked negative_type asked_of root_standing part_of selected placed is_fixed part_faults root_faults selector_faults whole_faults target_faults too_many_selectors callee conversion_named block_parameters call_type call_without_result call_matches callee_faults value_unsuited output_unsuited asked_by matched_type is_on_super operands_unsuited operand_unsuited operand_asked front_asked given_unsuited called_root_faults
+unfolding here names class simple member int bare dotted sought type_qualifier dot_qualifier instance_variable is_text_under chain lookup common_kind operation_type unary_type is_assignable is_bindable int_type int_faults negative_faults typed_literal_faults number_asked negative_type asked_of root_standing part_of selected placed is_fixed part_faults root_faults selector_faults whole_faults target_faults too_many_selectors callee conversion_named block_parameters call_type call_without_result call_matches callee_faults value_unsuited output_unsuited asked_by matched_type is_on_super operands_unsuited unsuited_line operand_unsuited operand_asked front_asked given_unsuited called_root_faults
 no_enumerator = refl
 
 -- k1.n is PROTECTED, k1.z is nowhere, r.n lacks its `^`
 protected_variable : least (faults here Anything (dotted (codes "K1") (codes "N"))) ≡ Some (E10, 2)
-unfolding here names class simple member int bare dotted sought type_qualifier dot_qualifier instance_variable is_text_under chain lookup common_kind operation_type unary_type is_assignable is_bindable int_type int_faults negative_faults typed_literal_faults number_asked negative_type asked_of root_standing part_of selected placed is_fixed part_faults root_faults selector_faults whole_faults target_faults too_many_selectors callee conversion_named block_parameters call_type call_without_result call_matches callee_faults value_unsuited output_unsuited asked_by matched_type is_on_super operands_unsuited operand_unsuited operand_asked front_asked given_unsuited called_root_faults
+unfolding here names class simple member int bare dotted sought type_qualifier dot_qualifier instance_variable is_text_under chain lookup common_kind operation_type unary_type is_assignable is_bindable int_type int_faults negative_faults typed_literal_faults number_asked negative_type asked_of root_standing part_of selected placed is_fixed part_faults root_faults selector_faults whole_faults target_faults too_many_selectors callee conversion_named block_parameters call_type call_without_result call_matches callee_faults value_unsuited output_unsuited asked_by matched_type is_on_super operands_unsuited unsuited_line operand_unsuited operand_asked front_asked given_unsuited called_root_faults
 protected_variable = refl
 
 no_part : least (faults here Anything (dotted (codes "K1") (codes "Z"))) ≡ Some (E05, 2)
-unfolding here names class simple member int bare dotted sought type_qualifier dot_qualifier instance_variable is_text_under chain lookup common_kind operation_type unary_type is_assignable is_bindable int_type int_faults negative_faults typed_literal_faults number_asked negative_type asked_of root_standing part_of selected placed is_fixed part_faults root_faults selector_faults whole_faults target_faults too_many_selectors callee conversion_named block_parameters call_type call_without_result call_matches callee_faults value_unsuited output_unsuited asked_by matched_type is_on_super operands_unsuited operand_unsuited operand_asked front_asked given_unsuited called_root_faults
+unfolding here names class simple member int bare dotted sought type_qualifier dot_qualifier instance_variable is_text_under chain lookup common_kind operation_type unary_type is_assignable is_bindable int_type int_faults negative_faults typed_literal_faults number_asked negative_type asked_of root_standing part_of selected placed is_fixed part_faults root_faults selector_faults whole_faults target_faults too_many_selectors callee conversion_named block_parameters call_type call_without_result call_matches callee_faults value_unsuited output_unsuited asked_by matched_type is_on_super operands_unsuited unsuited_line operand_unsuited operand_asked front_asked given_unsuited called_root_faults
 no_part = refl
 
 no_dereference : least (faults here Anything (dotted (codes "R") (codes "N"))) ≡ Some (E05, 2)
-unfolding here names class simple member int bare dotted sought type_qualifier dot_qualifier instance_variable is_text_under chain lookup common_kind operation_type unary_type is_assignable is_bindable int_type int_faults negative_faults typed_literal_faults number_asked negative_type asked_of root_standing part_of selected placed is_fixed part_faults root_faults selector_faults whole_faults target_faults too_many_selectors callee conversion_named block_parameters call_type call_without_result call_matches callee_faults value_unsuited output_unsuited asked_by matched_type is_on_super operands_unsuited operand_unsuited operand_asked front_asked given_unsuited called_root_faults
+unfolding here names class simple member int bare dotted sought type_qualifier dot_qualifier instance_variable is_text_under chain lookup common_kind operation_type unary_type is_assignable is_bindable int_type int_faults negative_faults typed_literal_faults number_asked negative_type asked_of root_standing part_of selected placed is_fixed part_faults root_faults selector_faults whole_faults target_faults too_many_selectors callee conversion_named block_parameters call_type call_without_result call_matches callee_faults value_unsuited output_unsuited asked_by matched_type is_on_super operands_unsuited unsuited_line operand_unsuited operand_asked front_asked given_unsuited called_root_faults
 no_dereference = refl
 
 -- k1.q := 1 writes an output from outside; EXIT outside a loop
 outer_output : least (body_faults here (statement.statement_then (statement.Assign 1 1 (root.Name 1 (codes "K1")) (tree.selector_then (tree.Field 1 (codes "Q")) tree.no_selectors) (int (codes "1"))) statement.no_statements)) ≡ Some (E08, 1)
-unfolding here names class simple member int bare dotted sought type_qualifier dot_qualifier instance_variable is_text_under chain lookup common_kind operation_type unary_type is_assignable is_bindable int_type int_faults negative_faults typed_literal_faults number_asked negative_type asked_of root_standing part_of selected placed is_fixed part_faults root_faults selector_faults whole_faults target_faults too_many_selectors callee conversion_named block_parameters call_type call_without_result call_matches callee_faults value_unsuited output_unsuited asked_by matched_type is_on_super operands_unsuited operand_unsuited operand_asked front_asked given_unsuited called_root_faults
+unfolding here names class simple member int bare dotted sought type_qualifier dot_qualifier instance_variable is_text_under chain lookup common_kind operation_type unary_type is_assignable is_bindable int_type int_faults negative_faults typed_literal_faults number_asked negative_type asked_of root_standing part_of selected placed is_fixed part_faults root_faults selector_faults whole_faults target_faults too_many_selectors callee conversion_named block_parameters call_type call_without_result call_matches callee_faults value_unsuited output_unsuited asked_by matched_type is_on_super operands_unsuited unsuited_line operand_unsuited operand_asked front_asked given_unsuited called_root_faults
 outer_output = simp (same_int, instance_views) refl
 
 exit_outside : least (body_faults here (statement.statement_then (statement.Exit 3) statement.no_statements)) ≡ Some (E10, 3)
-unfolding here names class simple member int bare dotted sought type_qualifier dot_qualifier instance_variable is_text_under chain lookup common_kind operation_type unary_type is_assignable is_bindable int_type int_faults negative_faults typed_literal_faults number_asked negative_type asked_of root_standing part_of selected placed is_fixed part_faults root_faults selector_faults whole_faults target_faults too_many_selectors callee conversion_named block_parameters call_type call_without_result call_matches callee_faults value_unsuited output_unsuited asked_by matched_type is_on_super operands_unsuited operand_unsuited operand_asked front_asked given_unsuited called_root_faults
+unfolding here names class simple member int bare dotted sought type_qualifier dot_qualifier instance_variable is_text_under chain lookup common_kind operation_type unary_type is_assignable is_bindable int_type int_faults negative_faults typed_literal_faults number_asked negative_type asked_of root_standing part_of selected placed is_fixed part_faults root_faults selector_faults whole_faults target_faults too_many_selectors callee conversion_named block_parameters call_type call_without_result call_matches callee_faults value_unsuited output_unsuited asked_by matched_type is_on_super operands_unsuited unsuited_line operand_unsuited operand_asked front_asked given_unsuited called_root_faults
 exit_outside = refl
 
 -- F(1): one argument too few; F(x + 1, x) is right
 few_arguments : least (faults here Anything (tree.Call 1 (root.Name 1 (codes "F")) tree.no_selectors (tree.argument_then (tree.Positional (int (codes "1"))) tree.no_arguments))) ≡ Some (E09, 1)
-unfolding here names class simple member int bare dotted sought type_qualifier dot_qualifier instance_variable is_text_under chain lookup common_kind operation_type unary_type is_assignable is_bindable int_type int_faults negative_faults typed_literal_faults number_asked negative_type asked_of root_standing part_of selected placed is_fixed part_faults root_faults selector_faults whole_faults target_faults too_many_selectors callee conversion_named block_parameters call_type call_without_result call_matches callee_faults value_unsuited output_unsuited asked_by matched_type is_on_super operands_unsuited operand_unsuited operand_asked front_asked given_unsuited called_root_faults
+unfolding here names class simple member int bare dotted sought type_qualifier dot_qualifier instance_variable is_text_under chain lookup common_kind operation_type unary_type is_assignable is_bindable int_type int_faults negative_faults typed_literal_faults number_asked negative_type asked_of root_standing part_of selected placed is_fixed part_faults root_faults selector_faults whole_faults target_faults too_many_selectors callee conversion_named block_parameters call_type call_without_result call_matches callee_faults value_unsuited output_unsuited asked_by matched_type is_on_super operands_unsuited unsuited_line operand_unsuited operand_asked front_asked given_unsuited called_root_faults
 few_arguments = refl
 
 right_arguments : least (faults here Anything (tree.Call 1 (root.Name 1 (codes "F")) tree.no_selectors (tree.argument_then (tree.Positional (int (codes "1"))) (tree.argument_then (tree.Positional (bare (codes "X"))) tree.no_arguments)))) ≡ None
-unfolding here names class simple member int bare dotted sought type_qualifier dot_qualifier instance_variable is_text_under chain lookup common_kind operation_type unary_type is_assignable is_bindable int_type int_faults negative_faults typed_literal_faults number_asked negative_type asked_of root_standing part_of selected placed is_fixed part_faults root_faults selector_faults whole_faults target_faults too_many_selectors callee conversion_named block_parameters call_type call_without_result call_matches callee_faults value_unsuited output_unsuited asked_by matched_type is_on_super operands_unsuited operand_unsuited operand_asked front_asked given_unsuited called_root_faults
+unfolding here names class simple member int bare dotted sought type_qualifier dot_qualifier instance_variable is_text_under chain lookup common_kind operation_type unary_type is_assignable is_bindable int_type int_faults negative_faults typed_literal_faults number_asked negative_type asked_of root_standing part_of selected placed is_fixed part_faults root_faults selector_faults whole_faults target_faults too_many_selectors callee conversion_named block_parameters call_type call_without_result call_matches callee_faults value_unsuited output_unsuited asked_by matched_type is_on_super operands_unsuited unsuited_line operand_unsuited operand_asked front_asked given_unsuited called_root_faults
 right_arguments = simp same_int refl
 
 -- an in-out takes no widened type
 widened_in_out : least (faults here Anything (tree.Call 1 (root.Name 1 (codes "F")) tree.no_selectors (tree.argument_then (tree.Positional (int (codes "1"))) (tree.argument_then (tree.Positional (bare (codes "U"))) tree.no_arguments)))) ≡ Some (E07, 1)
-unfolding here names class simple member int bare dotted sought type_qualifier dot_qualifier instance_variable is_text_under chain lookup common_kind operation_type unary_type is_assignable is_bindable int_type int_faults negative_faults typed_literal_faults number_asked negative_type asked_of root_standing part_of selected placed is_fixed part_faults root_faults selector_faults whole_faults target_faults too_many_selectors callee conversion_named block_parameters call_type call_without_result call_matches callee_faults value_unsuited output_unsuited asked_by matched_type is_on_super operands_unsuited operand_unsuited operand_asked front_asked given_unsuited called_root_faults
+unfolding here names class simple member int bare dotted sought type_qualifier dot_qualifier instance_variable is_text_under chain lookup common_kind operation_type unary_type is_assignable is_bindable int_type int_faults negative_faults typed_literal_faults number_asked negative_type asked_of root_standing part_of selected placed is_fixed part_faults root_faults selector_faults whole_faults target_faults too_many_selectors callee conversion_named block_parameters call_type call_without_result call_matches callee_faults value_unsuited output_unsuited asked_by matched_type is_on_super operands_unsuited unsuited_line operand_unsuited operand_asked front_asked given_unsuited called_root_faults
 widened_in_out = simp (usint_no_int, same_int) refl
 
 -- INT_TO_USINT(5) is USINT; a block called as a value
 conversion : type_of here Anything (tree.Call 1 (root.Name 1 (codes "INT_TO_USINT")) tree.no_selectors (tree.argument_then (tree.Positional (int (codes "5"))) tree.no_arguments)) ≡ Some (Elementary elem.Usint)
-unfolding here names class simple member int bare dotted sought type_qualifier dot_qualifier instance_variable is_text_under chain lookup common_kind operation_type unary_type is_assignable is_bindable int_type int_faults negative_faults typed_literal_faults number_asked negative_type asked_of root_standing part_of selected placed is_fixed part_faults root_faults selector_faults whole_faults target_faults too_many_selectors callee conversion_named block_parameters call_type call_without_result call_matches callee_faults value_unsuited output_unsuited asked_by matched_type is_on_super operands_unsuited operand_unsuited operand_asked front_asked given_unsuited called_root_faults
+unfolding here names class simple member int bare dotted sought type_qualifier dot_qualifier instance_variable is_text_under chain lookup common_kind operation_type unary_type is_assignable is_bindable int_type int_faults negative_faults typed_literal_faults number_asked negative_type asked_of root_standing part_of selected placed is_fixed part_faults root_faults selector_faults whole_faults target_faults too_many_selectors callee conversion_named block_parameters call_type call_without_result call_matches callee_faults value_unsuited output_unsuited asked_by matched_type is_on_super operands_unsuited unsuited_line operand_unsuited operand_asked front_asked given_unsuited called_root_faults
 conversion = refl
 
 block_as_value : least (faults here Anything (tree.Call 1 (root.Name 1 (codes "K1")) tree.no_selectors tree.no_arguments)) ≡ Some (E07, 1)
-unfolding here names class simple member int bare dotted sought type_qualifier dot_qualifier instance_variable is_text_under chain lookup common_kind operation_type unary_type is_assignable is_bindable int_type int_faults negative_faults typed_literal_faults number_asked negative_type asked_of root_standing part_of selected placed is_fixed part_faults root_faults selector_faults whole_faults target_faults too_many_selectors callee conversion_named block_parameters call_type call_without_result call_matches callee_faults value_unsuited output_unsuited asked_by matched_type is_on_super operands_unsuited operand_unsuited operand_asked front_asked given_unsuited called_root_faults
+unfolding here names class simple member int bare dotted sought type_qualifier dot_qualifier instance_variable is_text_under chain lookup common_kind operation_type unary_type is_assignable is_bindable int_type int_faults negative_faults typed_literal_faults number_asked negative_type asked_of root_standing part_of selected placed is_fixed part_faults root_faults selector_faults whole_faults target_faults too_many_selectors callee conversion_named block_parameters call_type call_without_result call_matches callee_faults value_unsuited output_unsuited asked_by matched_type is_on_super operands_unsuited unsuited_line operand_unsuited operand_asked front_asked given_unsuited called_root_faults
 block_as_value = refl

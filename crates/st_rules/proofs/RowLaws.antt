@@ -10,7 +10,7 @@ use Rattle.st_rules.specs.declared.asked.Asked.TheVariants.{Anything, Wanted, Un
 use Rattle.st_rules.specs.Kinds.{is_arithmetic, is_number, is_elementary, operation_type}
 use Rattle.st_rules.specs.Literals.{asked_of, number_asked}
 use Rattle.st_rules.specs.Scope.{Scope}
-use Rattle.st_rules.specs.Expressions.{is_untyped, are_untyped, type_of, asked_behind, row_type, faults, row_faults, front_asked, operand_asked, operands_unsuited}
+use Rattle.st_rules.specs.Expressions.{is_untyped, are_untyped, type_of, asked_behind, row_type, faults, row_faults, front_asked, operand_asked, row_unsuited}
 use Rattle.st_rules.specs.Rows.{tails_and, both_asked, beside}
 
 -- ---- truth values
@@ -126,21 +126,21 @@ module _ (s : Scope) where
   row_faults_and : (u : Bool) (a : Asked) (t : Option StType) (ts : Tails ℕ) (k : ℕ) (o : Operator) (x : Expression ℕ)
       → row_faults s u a t (tails_and ts k o x)
       ≡ row_faults s u a t ts ++ (faults s (operand_asked (u && are_untyped ts) (is_untyped x) a (row_type s u a t ts)) x
-      ++ operands_unsuited k o (row_type s u a t ts) (type_of s (operand_asked (u && are_untyped ts) (is_untyped x) a (row_type s u a t ts)) x))
+      ++ row_unsuited x k o (row_type s u a t ts) (type_of s (operand_asked (u && are_untyped ts) (is_untyped x) a (row_type s u a t ts)) x))
   row_faults_and u a t no_tails k o x =
-      append-nil (faults s (operand_asked u (is_untyped x) a t) x ++ operands_unsuited k o t (type_of s (operand_asked u (is_untyped x) a t) x))
-      ∙ ap (λ b. faults s (operand_asked b (is_untyped x) a t) x ++ operands_unsuited k o t (type_of s (operand_asked b (is_untyped x) a t) x)) (sym (and-true u))
+      append-nil (faults s (operand_asked u (is_untyped x) a t) x ++ row_unsuited x k o t (type_of s (operand_asked u (is_untyped x) a t) x))
+      ∙ ap (λ b. faults s (operand_asked b (is_untyped x) a t) x ++ row_unsuited x k o t (type_of s (operand_asked b (is_untyped x) a t) x)) (sym (and-true u))
   row_faults_and u a t (tail_then j p y ts) k o x =
       let inner = operand_asked u (is_untyped y) a t in
       let now = operation_type p t (type_of s inner y) in
       ap
-      (λ xs. (faults s inner y ++ operands_unsuited j p t (type_of s inner y)) ++ xs)
+      (λ xs. (faults s inner y ++ row_unsuited y j p t (type_of s inner y)) ++ xs)
       (row_faults_and (is_arithmetic p && u && is_untyped y) a now ts k o x
       ∙ ap
       (λ b. row_faults s (is_arithmetic p && u && is_untyped y) a now ts ++ (faults s (operand_asked b (is_untyped x) a (row_type s u a t (tail_then j p y ts))) x
-      ++ operands_unsuited k o (row_type s u a t (tail_then j p y ts)) (type_of s (operand_asked b (is_untyped x) a (row_type s u a t (tail_then j p y ts))) x)))
+      ++ row_unsuited x k o (row_type s u a t (tail_then j p y ts)) (type_of s (operand_asked b (is_untyped x) a (row_type s u a t (tail_then j p y ts))) x)))
       (untyped-so-far (is_arithmetic p) u (is_untyped y) (are_untyped ts)))
-      ∙ sym (append_assoc (faults s inner y ++ operands_unsuited j p t (type_of s inner y)) (row_faults s (is_arithmetic p && u && is_untyped y) a now ts) _)
+      ∙ sym (append_assoc (faults s inner y ++ row_unsuited y j p t (type_of s inner y)) (row_faults s (is_arithmetic p && u && is_untyped y) a now ts) _)
 
   -- ---- the row and the operand behind it
 
@@ -184,18 +184,18 @@ module _ (s : Scope) where
 
     pub faults_pair : faults s asked (Chain l e (tails_and ts k o x))
         ≡ faults s (beside s o asked (Chain l e ts) x) (Chain l e ts) ++ (faults s (beside s o asked x (Chain l e ts)) x
-        ++ operands_unsuited k o (type_of s (beside s o asked (Chain l e ts) x) (Chain l e ts)) (type_of s (beside s o asked x (Chain l e ts)) x))
+        ++ row_unsuited x k o (type_of s (beside s o asked (Chain l e ts) x) (Chain l e ts)) (type_of s (beside s o asked x (Chain l e ts)) x))
     unfolding given untyped front
     faults_pair =
         ap (λ a. faults s (front_asked (is_untyped e) a) e ++ row_faults s (is_untyped e) (front_asked (is_untyped e) a) (type_of s (front_asked (is_untyped e) a) e) (tails_and ts k o x)) (asked_and asked ts k o x)
         ∙ ap (λ xs. faults s (front given) e ++ xs) (row_faults_and (is_untyped e) (front given) (type_of s (front given) e) ts k o x)
         ∙ sym (append_assoc (faults s (front given) e) _ _)
         ∙ ap
-        (λ a. faults s given (Chain l e ts) ++ (faults s a x ++ operands_unsuited k o (type_of s given (Chain l e ts)) (type_of s a x)))
+        (λ a. faults s given (Chain l e ts) ++ (faults s a x ++ row_unsuited x k o (type_of s given (Chain l e ts)) (type_of s a x)))
         (right_asked (is_untyped x) untyped refl refl)
         ∙ ap
-        (λ xs. xs ++ (faults s (beside s o asked x (Chain l e ts)) x ++ operands_unsuited k o (type_of s given (Chain l e ts)) (type_of s (beside s o asked x (Chain l e ts)) x)))
+        (λ xs. xs ++ (faults s (beside s o asked x (Chain l e ts)) x ++ row_unsuited x k o (type_of s given (Chain l e ts)) (type_of s (beside s o asked x (Chain l e ts)) x)))
         (left_faults untyped refl)
         ∙ ap
-        (λ t. faults s (beside s o asked (Chain l e ts) x) (Chain l e ts) ++ (faults s (beside s o asked x (Chain l e ts)) x ++ operands_unsuited k o t (type_of s (beside s o asked x (Chain l e ts)) x)))
+        (λ t. faults s (beside s o asked (Chain l e ts) x) (Chain l e ts) ++ (faults s (beside s o asked x (Chain l e ts)) x ++ row_unsuited x k o t (type_of s (beside s o asked x (Chain l e ts)) x)))
         (left_type untyped refl)

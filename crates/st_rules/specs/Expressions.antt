@@ -104,6 +104,19 @@ unfoldable pub operands_unsuited : ℕ → Operator → Option StType → Option
 operands_unsuited line o (Some t) (Some u) = when (not (suits_operator o t u)) E07 line
 operands_unsuited line o _ _ = []
 
+-- an untyped operand that cannot take the type of the row before it, and has that of an int for it
+abbrev pub is_untaken : StType → StType → Bool
+is_untaken t u = is_elementary is_number u && not (is_elementary is_number t)
+
+-- an operation is refused at its operator; where its untyped operand cannot take the type beside it, that is refused instead
+unfoldable pub unsuited_line : Bool → ℕ → ℕ → Option StType → Option StType → ℕ
+unsuited_line true own line (Some t) (Some u) = if is_untaken t u then own else line
+unsuited_line _ own line t u = line
+
+-- what the operator of a row does not take, the row before it and the operand behind it
+abbrev pub row_unsuited : Expression ℕ → ℕ → Operator → Option StType → Option StType → Faults
+row_unsuited e line o t u = operands_unsuited (unsuited_line (is_untyped e) (line_of e) line t u) o t u
+
 unfoldable pub operand_unsuited : ℕ → (Elem → Bool) → Option StType → Faults
 operand_unsuited line takes None = []
 operand_unsuited line takes (Some t) = when (not (is_elementary takes t)) E07 line
@@ -301,7 +314,7 @@ module _ (s : Scope) where
     row_faults untyped asked t (tail_then l o e ts) =
         let inner = operand_asked untyped (is_untyped e) asked t in
         faults inner e
-        ++ operands_unsuited l o t (type_of inner e)
+        ++ row_unsuited e l o t (type_of inner e)
         ++ row_faults (is_arithmetic o && untyped && is_untyped e) asked (operation_type o t (type_of inner e)) ts
 
     -- an index asks for no type

@@ -6,7 +6,7 @@ ghost use Rattle.st_tree.specs.Expression.{Expression, Chain, Tails, no_tails};
 ghost use Rattle.st_rules.specs.declared.asked.Asked.{Asked};
 ghost use Rattle.st_rules.specs.Kinds.{is_arithmetic, operation_type};
 ghost use Rattle.st_rules.specs.Scope.{Scope};
-ghost use Rattle.st_rules.specs.Expressions.{is_untyped, type_of, faults, front_asked, operands_unsuited};
+ghost use Rattle.st_rules.specs.Expressions.{is_untyped, type_of, faults, front_asked, row_unsuited};
 ghost use Rattle.st_rules.specs.Rows.{tails_and, beside};
 
 /// Operators of one level group to the left. A row without operators is its first operand. A row with an operator more is the
@@ -25,5 +25,5 @@ pub fn row_laws()
         let row = Chain l e ts in
         faults s asked (Chain l e (tails_and ts k o x))
         ≡ faults s (beside s o asked row x) row ++ (faults s (beside s o asked x row) x
-        ++ operands_unsuited k o (type_of s (beside s o asked row x) row) (type_of s (beside s o asked x row) x)) }
+        ++ row_unsuited x k o (type_of s (beside s o asked row x) row) (type_of s (beside s o asked x row) x)) }
 {}

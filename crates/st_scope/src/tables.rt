@@ -176,7 +176,6 @@ fn lone(first: Option<u32>, last: Option<u32>) -> Option<u32>
 }
 
 /// The names of a unit, found by hash, on cycles of bases too. Contracts see what the unit declares, and the base of each class.
-#[derive(Drop)]
 pub struct NameTables {
     names: DeclaredNames,
     bases: Vec<Option<u32>>,
@@ -191,6 +190,27 @@ pub struct NameTables {
     all: Vec<Places>,
     inherited: Vec<Places>,
     of_instance: Vec<Places>,
+}
+
+// By hand, so that a drop is one call: a derived one is written out wherever a `?` may need it.
+impl Drop for NameTables {
+    fn drop(self) {
+        let NameTables {
+            names: _,
+            bases: _,
+            derived: _,
+            types: _,
+            globals: _,
+            variables: _,
+            first: _,
+            last: _,
+            values: _,
+            fields: _,
+            all: _,
+            inherited: _,
+            of_instance: _,
+        } = self;
+    }
 }
 
 impl Model for NameTables {

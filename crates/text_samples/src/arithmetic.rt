@@ -1,5 +1,7 @@
 //! Operations at the ends of each kind.
 
+ghost use Rattle.st_types.specs.Range.{Fits};
+
 use plc_num::{add, and, compare, convert, div, mul, not, or, rem, sub, wrap, xor};
 use st_types::{Elem, fits};
 use std::cmp::Ordering;
@@ -79,19 +81,47 @@ const ARITHMETIC: [Row; 15] = [
     (Elem::Time, 10, 4294967290, 4, 16, 4294967236, 0, 10),
 ];
 
+fn is_sum_of(e: Elem, a: i128, b: i128, sum: i128, difference: i128, product: i128) -> bool
+    requires left { Fits e a }
+    requires right { Fits e b }
+{
+    add(e, a, b) == sum && sub(e, a, b) == difference && mul(e, a, b) == product
+}
+
+fn is_quotient_of(e: Elem, a: i128, b: i128, quotient: i128, remainder: i128) -> bool
+    requires left { Fits e a }
+    requires right { Fits e b }
+{
+    div(e, a, b) == Some(quotient) && rem(e, a, b) == Some(remainder)
+}
+
+fn is_undivided(e: Elem, a: i128, zero: i128) -> bool
+    requires left { Fits e a }
+    requires none { Fits e zero }
+{
+    div(e, a, zero) == None && rem(e, a, zero) == None
+}
+
+fn adds(row: &Row) -> bool {
+    let (e, a, b, sum, difference, product, _, _) = *row;
+    fits(e, a) && fits(e, b) && is_sum_of(e, a, b, sum, difference, product)
+}
+
+fn divides(row: &Row) -> bool {
+    let (e, a, b, _, _, _, quotient, remainder) = *row;
+    fits(e, a) && fits(e, b) && is_quotient_of(e, a, b, quotient, remainder)
+}
+
+fn is_undivided_by_zero(row: &Row) -> bool {
+    let (e, a, _, _, _, _, _, _) = *row;
+    fits(e, a) && fits(e, 0) && is_undivided(e, a, 0)
+}
+
 #[test]
 fn arithmetic_wraps_at_the_ends_of_each_kind(rt: HostRuntime) {
-    for (e, a, b, sum, difference, product, quotient, remainder) in &ARITHMETIC {
-        let (e, a, b) = (*e, *a, *b);
-        assert!(rt; fits(e, a) && fits(e, b) && fits(e, 0));
-        assert!(rt; add(e, a, b) == *sum);
-        assert!(rt; sub(e, a, b) == *difference);
-        assert!(rt; mul(e, a, b) == *product);
-        assert!(rt; div(e, a, b) == Some(*quotient));
-        assert!(rt; rem(e, a, b) == Some(*remainder));
-        assert!(rt; div(e, a, 0) == None);
-        assert!(rt; rem(e, a, 0) == None);
-    }
+    assert!(rt; ARITHMETIC.iter().all(adds));
+    assert!(rt; ARITHMETIC.iter().all(divides));
+    assert!(rt; ARITHMETIC.iter().all(is_undivided_by_zero));
 }
 
 /// Kind, two values, and what AND, OR and XOR make of them, and NOT of the first.
@@ -121,16 +151,21 @@ const BITS: [(Elem, i128, i128, i128, i128, i128, i128); 7] = [
     (Elem::Sint, -1, 85, 85, -1, -86, 0),
 ];
 
+fn is_pair(e: Elem, a: i128, b: i128, both: i128, either: i128, one: i128) -> bool
+    requires left { Fits e a }
+    requires right { Fits e b }
+{
+    and(e, a, b) == both && or(e, a, b) == either && xor(e, a, b) == one
+}
+
+fn is_row_of_bits(row: &(Elem, i128, i128, i128, i128, i128, i128)) -> bool {
+    let (e, a, b, both, either, one, opposite) = *row;
+    fits(e, a) && fits(e, b) && is_pair(e, a, b, both, either, one) && not(e, a) == opposite
+}
+
 #[test]
 fn bits_are_those_of_the_width(rt: HostRuntime) {
-    for (e, a, b, both, either, one, opposite) in &BITS {
-        let (e, a, b) = (*e, *a, *b);
-        assert!(rt; fits(e, a) && fits(e, b));
-        assert!(rt; and(e, a, b) == *both);
-        assert!(rt; or(e, a, b) == *either);
-        assert!(rt; xor(e, a, b) == *one);
-        assert!(rt; not(e, a) == *opposite);
-    }
+    assert!(rt; BITS.iter().all(is_row_of_bits));
 }
 
 /// Kind, a number, and what wrapping and conversion make of it.

@@ -4,7 +4,5 @@
 mod counts;
 mod names;
 mod sums;
-#[cfg(test)]
-mod tests;
 
 pub use names::unit_untold;

@@ -28,6 +28,13 @@ pub fn exchange_at(v: &mut Value, steps: &[Step], new: Value) -> Result<Value, V
     }
 }
 
+/// Puts a value in the place of one that was only held there.
+fn put_back(v: &mut Value, value: Value)
+    ensures { v.new ≡ value }
+{
+    *v = value;
+}
+
 #[cycle(exchange)]
 #[tactic(auto, using(crate::specs::Value::value_views))]
 fn exchange_in_array(v: &mut Value, index: &i128, rest: &[Step], new: Value) -> Result<Value, Value>
@@ -36,23 +43,23 @@ fn exchange_in_array(v: &mut Value, index: &i128, rest: &[Step], new: Value) -> 
     match mem::replace(v, Value::Number(0)) {
         Value::Array(low, mut items) => {
             let answer = exchange_element(&mut items, &low, index, rest, new);
-            *v = Value::Array(low, items);
+            put_back(v, Value::Array(low, items));
             answer
         }
         Value::Structure(name, members) => {
-            *v = Value::Structure(name, members);
+            put_back(v, Value::Structure(name, members));
             Err(new)
         }
         Value::Instance(name, members) => {
-            *v = Value::Instance(name, members);
+            put_back(v, Value::Instance(name, members));
             Err(new)
         }
         Value::Number(n) => {
-            *v = Value::Number(n);
+            put_back(v, Value::Number(n));
             Err(new)
         }
         Value::Reference(target) => {
-            *v = Value::Reference(target);
+            put_back(v, Value::Reference(target));
             Err(new)
         }
     }
@@ -66,24 +73,24 @@ fn exchange_in_members(v: &mut Value, k: u32, rest: &[Step], new: Value) -> Resu
     match mem::replace(v, Value::Number(0)) {
         Value::Structure(name, mut members) => {
             let answer = exchange_member(&mut members, k, rest, new);
-            *v = Value::Structure(name, members);
+            put_back(v, Value::Structure(name, members));
             answer
         }
         Value::Instance(name, mut members) => {
             let answer = exchange_member(&mut members, k, rest, new);
-            *v = Value::Instance(name, members);
+            put_back(v, Value::Instance(name, members));
             answer
         }
         Value::Array(low, items) => {
-            *v = Value::Array(low, items);
+            put_back(v, Value::Array(low, items));
             Err(new)
         }
         Value::Number(n) => {
-            *v = Value::Number(n);
+            put_back(v, Value::Number(n));
             Err(new)
         }
         Value::Reference(target) => {
-            *v = Value::Reference(target);
+            put_back(v, Value::Reference(target));
             Err(new)
         }
     }

@@ -1,7 +1,8 @@
 use Rattle.std.proofs.Common.{ap, ◌∙◌}
 use Rattle.st_tree.specs.Statement.{statement_of, statement_of-Empty, statement_of-Assign, statement_of-Attempt, statement_of-Exit, statement_of-Continue, statement_of-Return, otherwise_of, otherwise_of-Nothing}
+use Rattle.st_check_expr.proofs.OkLaws.{when_ok}
 use Rattle.st_check_body.proofs.ListLaws.{statements_begun, statements_next, statements_ended, branches_begun, branches_next, branches_ended, cases_begun, cases_next, cases_ended}
-use Rattle.st_check_body.proofs.NodeLaws.{statement_seen, call_seen, otherwise_seen, if_arm, case_arm, for_arm, while_arm, repeat_arm, branch_arm, case_branch_arm, else_arm}
+use Rattle.st_check_body.proofs.NodeLaws.{statement_seen, all_statements_seen, call_seen, otherwise_seen, if_arm, case_arm, for_arm, while_arm, repeat_arm, branch_arm, case_branch_arm, else_arm}
 use Rattle.st_check_body.proofs.body.+body.Goals as goal
 
 -- ---- statements
@@ -9,14 +10,14 @@ use Rattle.st_check_body.proofs.body.+body.Goals as goal
 pub check_statement-returns-in-Empty : goal.check_statement-returns-in-Empty
 check_statement-returns-in-Empty t c = statement_seen _ _ _ _ _ (ap statement_of c.in-Empty.is ∙ statement_of-Empty _) (c.empty_of.ensures c.args.s.now c.args.in_loop)
 
-pub check_statement-returns-in_ok-c-in-Assign : goal.check_statement-returns-in_ok-c-in-Assign
-check_statement-returns-in_ok-c-in-Assign t c = statement_seen _ _ _ _ _ (ap statement_of c.in-Assign.is ∙ statement_of-Assign _ _ _ _) (c.in_ok-c-in-Assign.ensures c.args.in_loop)
+pub check_statement-returns-in-Assign : goal.check_statement-returns-in-Assign
+check_statement-returns-in-Assign t c = all_statements_seen _ _ _ _ _ (ap statement_of c.in-Assign.is ∙ statement_of-Assign _ _ _ _) (c.check_assign.ensures c.args.in_loop)
 
-pub check_statement-returns-in_ok-c-in-Attempt : goal.check_statement-returns-in_ok-c-in-Attempt
-check_statement-returns-in_ok-c-in-Attempt t c = statement_seen _ _ _ _ _ (ap statement_of c.in-Attempt.is ∙ statement_of-Attempt _ _ _ _) (c.in_ok-c-in-Attempt.ensures c.args.in_loop)
+pub check_statement-returns-in-Attempt : goal.check_statement-returns-in-Attempt
+check_statement-returns-in-Attempt t c = all_statements_seen _ _ _ _ _ (ap statement_of c.in-Attempt.is ∙ statement_of-Attempt _ _ _ _) (c.check_attempt.ensures c.args.in_loop)
 
-pub check_statement-returns-in_ok-c-in-Call : goal.check_statement-returns-in_ok-c-in-Call
-check_statement-returns-in_ok-c-in-Call t c = call_seen _ _ _ _ _ _ _ _ _ c.in-Call.is c.as_slice.ensures (c.in_ok-c-in-Call.ensures c.args.in_loop)
+pub check_statement-returns-in-Call : goal.check_statement-returns-in-Call
+check_statement-returns-in-Call t c = when_ok c.check_call.result (c.check_call.ensures c.args.in_loop) (λ x w. call_seen x _ _ _ _ _ _ _ _ c.in-Call.is c.as_slice.ensures w)
 
 pub check_statement-returns-in-Exit : goal.check_statement-returns-in-Exit
 check_statement-returns-in-Exit t c = statement_seen _ _ _ _ _ (ap statement_of c.in-Exit.is ∙ statement_of-Exit _) (c.exit_of.ensures c.args.s.now)
@@ -33,8 +34,8 @@ check_statement-returns-in_ok-o-in-If t c = if_arm _ _ _ _ _ _ _ _ _ _ c.in-If.i
 pub check_statement-returns-in_ok-o-in-Case : goal.check_statement-returns-in_ok-o-in-Case
 check_statement-returns-in_ok-o-in-Case t c = case_arm _ _ _ _ _ _ _ _ _ _ _ _ _ c.in-Case.is c.as_slice-in-Case.ensures c.in_ok-choice-in-Case.ensures c.in_ok-asked-in-Case.ensures c.in_ok-cs-in-Case.ensures c.in_ok-o-in-Case.ensures c.case_of.ensures
 
-pub check_statement-returns-in_ok-c-in-For : goal.check_statement-returns-in_ok-c-in-For
-check_statement-returns-in_ok-c-in-For t c = for_arm _ _ _ _ _ _ _ _ _ _ _ _ _ _ c.in-For.is c.as_slice-in-For.ensures c.in_ok-control-in-For.ensures c.in_ok-body-in-For.ensures c.in_ok-c-in-For.ensures
+pub check_statement-returns-in_ok-body-in-For : goal.check_statement-returns-in_ok-body-in-For
+check_statement-returns-in_ok-body-in-For t c = when_ok c.for_of.result c.for_of.ensures (λ x w. for_arm x _ _ _ _ _ _ _ _ _ _ _ _ _ c.in-For.is c.as_slice-in-For.ensures c.in_ok-control-in-For.ensures c.in_ok-body-in-For.ensures w)
 
 pub check_statement-returns-in_ok-body-in-While : goal.check_statement-returns-in_ok-body-in-While
 check_statement-returns-in_ok-body-in-While t c = while_arm _ _ _ _ _ _ _ _ _ _ c.in-While.is c.as_slice-in-While.ensures c.in_ok-e-in-While.ensures c.in_ok-body-in-While.ensures c.while_of.ensures

@@ -1,4 +1,4 @@
-use Rattle.std.proofs.Common.{refl}
+use Rattle.std.proofs.Common.{◌≡◌, refl}
 use Rattle.std.proofs.lemmas.Result.{err_from_is_err_and}
 use Rattle.st_tree.specs.declared.terminal.Terminal.TheVariants as x
 use Rattle.st_parser_decl.specs.Private.Rules as w
@@ -23,4 +23,7 @@ returns-in_err-body-clause-err c = let p = err_from_is_err_and c.from_residual-i
 
 pub returns-clause-ok : goal.returns-clause-ok
 unfolding w.block
-returns-clause-ok c = r.parses_at x.FunctionBlock _ c.line-line.ensures (r.behind c.in_ok-sign.ensures.ok (r.behind c.in_ok-head.ensures.ok (r.behind c.in_ok-members.ensures.ok (r.body_parses x.EndFunctionBlock tt (refl, tt) _ c.in_ok-body.ensures.ok))))
+returns-clause-ok c =
+    let held : c.new-head.result ≡ c.in_ok-head.head = c.new-head.ensures in
+    let taken : c.into_inner-head.result ≡ c.new-head.result = c.into_inner-head.ensures in
+    rw (taken, held) (r.parses_at x.FunctionBlock _ c.line-line.ensures (r.behind c.in_ok-sign.ensures.ok (r.behind c.in_ok-head.ensures.ok (r.behind c.in_ok-members.ensures.ok (r.body_parses x.EndFunctionBlock tt (refl, tt) _ c.in_ok-body.ensures.ok)))))

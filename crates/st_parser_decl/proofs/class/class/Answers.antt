@@ -1,3 +1,4 @@
+use Rattle.std.proofs.Common.{◌≡◌}
 use Rattle.std.proofs.lemmas.Result.{err_from_is_err_and}
 use Rattle.st_tree.specs.declared.terminal.Terminal.TheVariants as x
 use Rattle.st_parser_decl.specs.Private.Rules as w
@@ -22,4 +23,7 @@ returns-in_err-sign-2-clause-err c = let p = err_from_is_err_and c.from_residual
 
 pub returns-clause-ok : goal.returns-clause-ok
 unfolding w.class
-returns-clause-ok c = r.phrase_as (r.parses_at x.Class _ c.line-line.ensures (r.behind c.in_ok-sign.ensures.ok (r.behind c.in_ok-head.ensures.ok (r.behind c.in_ok-members.ensures.ok c.in_ok-sign-2.ensures.ok)))) (λ h. (h.0, (c.new-body.ensures, h.1)))
+returns-clause-ok c =
+    let held : c.new-head.result ≡ c.in_ok-head.head = c.new-head.ensures in
+    let taken : c.into_inner-head.result ≡ c.new-head.result = c.into_inner-head.ensures in
+    rw (taken, held) (r.phrase_as (r.parses_at x.Class _ c.line-line.ensures (r.behind c.in_ok-sign.ensures.ok (r.behind c.in_ok-head.ensures.ok (r.behind c.in_ok-members.ensures.ok c.in_ok-sign-2.ensures.ok)))) (λ h. (h.0, (c.new-body.ensures, h.1))))

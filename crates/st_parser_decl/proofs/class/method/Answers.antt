@@ -1,4 +1,4 @@
-use Rattle.std.proofs.Common.{refl}
+use Rattle.std.proofs.Common.{◌≡◌, refl}
 use Rattle.std.proofs.lemmas.Result.{err_from_is_err_and}
 use Rattle.st_tree.specs.declared.terminal.Terminal.TheVariants as x
 use Rattle.st_parser_decl.specs.Private.Rules as w
@@ -31,4 +31,7 @@ returns-in_err-body-clause-err c = let p = err_from_is_err_and c.from_residual-i
 
 pub returns-clause-ok : goal.returns-clause-ok
 unfolding w.method w.method_words
-returns-clause-ok c = r.parses_at x.Method _ c.line-line.ensures (r.behind c.in_ok-sign.ensures.ok (r.behind c.in_ok-modifiers.ensures.ok (r.behind c.in_ok-name.ensures.ok (r.behind c.in_ok-result.ensures.ok (r.behind c.may_semicolon.ensures (r.behind c.in_ok-sections.ensures.ok (r.body_parses x.EndMethod tt (refl, tt) _ c.in_ok-body.ensures.ok)))))))
+returns-clause-ok c =
+    let held_outcome : c.new-result.result ≡ c.in_ok-result.result = c.new-result.ensures in
+    let outcome : c.into_inner-result.result ≡ c.new-result.result = c.into_inner-result.ensures in
+    rw (outcome, held_outcome) (r.parses_at x.Method _ c.line-line.ensures (r.behind c.in_ok-sign.ensures.ok (r.behind c.in_ok-modifiers.ensures.ok (r.behind c.in_ok-name.ensures.ok (r.behind c.in_ok-result.ensures.ok (r.behind c.may_semicolon.ensures (r.behind c.in_ok-sections.ensures.ok (r.body_parses x.EndMethod tt (refl, tt) _ c.in_ok-body.ensures.ok))))))))

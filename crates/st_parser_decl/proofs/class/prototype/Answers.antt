@@ -1,3 +1,4 @@
+use Rattle.std.proofs.Common.{◌≡◌}
 use Rattle.std.proofs.lemmas.Result.{err_from_is_err_and}
 use Rattle.st_tree.specs.declared.terminal.Terminal.TheVariants as x
 use Rattle.st_parser_decl.specs.Private.Rules as w
@@ -26,4 +27,7 @@ returns-in_err-sign-2-clause-err c = let p = err_from_is_err_and c.from_residual
 
 pub returns-clause-ok : goal.returns-clause-ok
 unfolding w.prototype
-returns-clause-ok c = r.parses_at x.Method _ c.line-line.ensures (r.behind c.in_ok-sign.ensures.ok (r.behind c.in_ok-name.ensures.ok (r.behind c.in_ok-result.ensures.ok (r.behind c.may_semicolon.ensures (r.behind c.in_ok-sections.ensures.ok c.in_ok-sign-2.ensures.ok)))))
+returns-clause-ok c =
+    let held_outcome : c.new-result.result ≡ c.in_ok-result.result = c.new-result.ensures in
+    let outcome : c.into_inner-result.result ≡ c.new-result.result = c.into_inner-result.ensures in
+    rw (outcome, held_outcome) (r.parses_at x.Method _ c.line-line.ensures (r.behind c.in_ok-sign.ensures.ok (r.behind c.in_ok-name.ensures.ok (r.behind c.in_ok-result.ensures.ok (r.behind c.may_semicolon.ensures (r.behind c.in_ok-sections.ensures.ok c.in_ok-sign-2.ensures.ok))))))

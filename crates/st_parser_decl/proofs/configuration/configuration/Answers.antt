@@ -1,3 +1,4 @@
+use Rattle.std.proofs.Common.{◌≡◌}
 use Rattle.std.proofs.lemmas.Result.{err_from_is_err_and}
 use Rattle.st_tree.specs.declared.terminal.Terminal.TheVariants as x
 use Rattle.st_parser_decl.specs.Private.Rules as w
@@ -26,4 +27,7 @@ returns-in_err-sign-2-clause-err c = let p = err_from_is_err_and c.from_residual
 
 pub returns-clause-ok : goal.returns-clause-ok
 unfolding w.configuration
-returns-clause-ok c = r.parses_at x.Configuration _ c.line-line.ensures (r.behind c.in_ok-sign.ensures.ok (r.behind c.in_ok-name.ensures.ok (r.behind c.in_ok-globals.ensures.ok (r.behind c.in_ok-inner.ensures.ok c.in_ok-sign-2.ensures.ok))))
+returns-clause-ok c =
+    let held : c.new-inner.result ≡ c.in_ok-inner.inner = c.new-inner.ensures in
+    let taken : c.into_inner-inner.result ≡ c.new-inner.result = c.into_inner-inner.ensures in
+    rw (taken, held) (r.parses_at x.Configuration _ c.line-line.ensures (r.behind c.in_ok-sign.ensures.ok (r.behind c.in_ok-name.ensures.ok (r.behind c.in_ok-globals.ensures.ok (r.behind c.in_ok-inner.ensures.ok c.in_ok-sign-2.ensures.ok)))))

@@ -1,3 +1,4 @@
+use Rattle.std.proofs.Common.{◌≡◌}
 use Rattle.std.proofs.lemmas.Result.{err_from_is_err_and}
 use Rattle.st_parser_decl.specs.Private.Rules as w
 use Rattle.st_parser_decl.proofs.Steps as r
@@ -33,4 +34,7 @@ returns-in_err-sign-3-clause-err c = let p = err_from_is_err_and c.from_residual
 
 pub returns-clause-ok : goal.returns-clause-ok
 unfolding w.resource
-returns-clause-ok c = r.behind c.in_ok-sign.ensures.ok (r.behind c.in_ok-own.ensures.ok (r.behind c.in_ok-sign-2.ensures.ok (r.behind c.in_ok-processor.ensures.ok (r.behind c.in_ok-globals.ensures.ok (r.behind c.in_ok-schedule.ensures.ok c.in_ok-sign-3.ensures.ok)))))
+returns-clause-ok c =
+    let held : c.new-schedule.result ≡ c.in_ok-schedule.schedule = c.new-schedule.ensures in
+    let taken : c.into_inner-schedule.result ≡ c.new-schedule.result = c.into_inner-schedule.ensures in
+    rw (taken, held) (r.behind c.in_ok-sign.ensures.ok (r.behind c.in_ok-own.ensures.ok (r.behind c.in_ok-sign-2.ensures.ok (r.behind c.in_ok-processor.ensures.ok (r.behind c.in_ok-globals.ensures.ok (r.behind c.in_ok-schedule.ensures.ok c.in_ok-sign-3.ensures.ok))))))

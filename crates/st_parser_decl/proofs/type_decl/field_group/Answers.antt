@@ -1,3 +1,4 @@
+use Rattle.std.proofs.Common.{◌≡◌}
 use Rattle.std.proofs.lemmas.Result.{err_from_is_err_and}
 use Rattle.st_parser_decl.specs.Private.Rules as w
 use Rattle.st_parser_decl.proofs.Steps as r
@@ -25,4 +26,9 @@ returns-in_err-sign-2-clause-err c = let p = err_from_is_err_and c.from_residual
 
 pub returns-clause-ok : goal.returns-clause-ok
 unfolding w.field_group
-returns-clause-ok c = r.behind c.in_ok-names.ensures.ok (r.behind c.in_ok-sign.ensures.ok (r.behind c.in_ok-kind.ensures.ok (r.behind c.in_ok-initial.ensures.ok c.in_ok-sign-2.ensures.ok)))
+returns-clause-ok c =
+    let held_kind : c.new-kind.result ≡ c.in_ok-kind.kind = c.new-kind.ensures in
+    let kind : c.into_inner-kind.result ≡ c.new-kind.result = c.into_inner-kind.ensures in
+    let held_initial : c.new-initial.result ≡ c.in_ok-initial.initial = c.new-initial.ensures in
+    let initial : c.into_inner-initial.result ≡ c.new-initial.result = c.into_inner-initial.ensures in
+    rw (kind, held_kind, initial, held_initial) (r.behind c.in_ok-names.ensures.ok (r.behind c.in_ok-sign.ensures.ok (r.behind c.in_ok-kind.ensures.ok (r.behind c.in_ok-initial.ensures.ok c.in_ok-sign-2.ensures.ok))))

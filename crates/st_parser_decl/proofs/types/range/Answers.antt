@@ -1,3 +1,4 @@
+use Rattle.std.proofs.Common.{◌≡◌}
 use Rattle.std.proofs.lemmas.Result.{err_from_is_err_and}
 use Rattle.st_parser_decl.specs.Private.Rules as w
 use Rattle.st_parser_decl.proofs.Steps as r
@@ -17,4 +18,7 @@ returns-in_err-high-clause-err c = let p = err_from_is_err_and c.from_residual-i
 
 pub returns-clause-ok : goal.returns-clause-ok
 unfolding w.range
-returns-clause-ok c = r.behind c.in_ok-low.ensures.ok (r.behind c.in_ok-sign.ensures.ok c.in_ok-high.ensures.ok)
+returns-clause-ok c =
+    let held_low : c.new-low.result ≡ c.in_ok-low.low = c.new-low.ensures in
+    let low : c.into_inner-low.result ≡ c.new-low.result = c.into_inner-low.ensures in
+    rw (low, held_low) (r.behind c.in_ok-low.ensures.ok (r.behind c.in_ok-sign.ensures.ok c.in_ok-high.ensures.ok))

@@ -1,4 +1,4 @@
-use Rattle.std.proofs.Common.{refl, sym}
+use Rattle.std.proofs.Common.{◌≡◌, ◌∙◌, refl, sym}
 use Rattle.std.proofs.lemmas.Result.{err_from_is_err_and}
 use Rattle.st_tree.specs.Initial as view
 use Rattle.st_parser_stmt.proofs.InitialRules as r
@@ -75,8 +75,10 @@ part-returns-in_err-sign-clause-err t c =
 
 pub part-returns-in_ok-sign-clause-ok : goal.part-returns-in_ok-sign-clause-ok
 part-returns-in_ok-sign-clause-ok t c =
-    r.parted _ _ _ _ (view.part_of-Repeated _ _ _)
-    (r.reads-repeated _ _ _ _ _ _ _ _ c.line-line.ensures (sym c.if-is_repetition.ensures) c.in_ok-count.ensures.ok c.bump.ensures c.in_ok-value.ensures.ok c.in_ok-sign.ensures.ok)
+    let e : c.into_inner-value.result ≡ c.in_ok-value.value = c.into_inner-value.ensures ∙ c.new-held.ensures in
+    rw e
+    (r.parted _ _ _ _ (view.part_of-Repeated _ _ _)
+    (r.reads-repeated _ _ _ _ _ _ _ _ c.line-line.ensures (sym c.if-is_repetition.ensures) c.in_ok-count.ensures.ok c.bump.ensures c.in_ok-value.ensures.ok c.in_ok-sign.ensures.ok))
 
 pub part-returns-in_err-value-2-clause-err : goal.part-returns-in_err-value-2-clause-err
 part-returns-in_err-value-2-clause-err t c =

@@ -1,4 +1,4 @@
-use Rattle.std.proofs.Common.{rules, false, ◌≡◌, Some, refl}
+use Rattle.std.proofs.Common.{rules, false, ◌≡◌, ◌∙◌, Some, refl}
 use Rattle.std.proofs.lemmas.Result.{err_from_is_err_and}
 use Rattle.st_tree.specs.declared.terminal.Terminal.TheVariants as x
 use Rattle.st_tree.specs.Statement as view
@@ -35,18 +35,21 @@ pub returns-in_ok-value-in-Some-Assign-clause-ok : goal.returns-in_ok-value-in-S
 returns-in_ok-value-in-Some-Assign-clause-ok c =
     let next : next_terminal c.place.new.tokens ≡ Some x.Assign = cc in
     let e : c.into_inner-value.result ≡ c.in_ok-value-in-Some-Assign.value = c.into_inner-value.ensures in
-    rw e (r.stated _ _ _ _ (view.statement_of-Assign _ _ _ _) (r.reads-assign _ _ _ _ _ _ _ _ c.line-line.ensures c.in_ok-place.ensures.ok next c.bump.ensures c.in_ok-value-in-Some-Assign.ensures.ok))
+    let p : c.into_inner-place.result ≡ c.in_ok-place.place = c.into_inner-place.ensures ∙ c.new-place.ensures in
+    rw (p, e) (r.stated _ _ _ _ (view.statement_of-Assign _ _ _ _) (r.reads-assign _ _ _ _ _ _ _ _ c.line-line.ensures c.in_ok-place.ensures.ok next c.bump.ensures c.in_ok-value-in-Some-Assign.ensures.ok))
 
 pub returns-in_ok-value-in-Some-Attempt-clause-ok : goal.returns-in_ok-value-in-Some-Attempt-clause-ok
 returns-in_ok-value-in-Some-Attempt-clause-ok c =
     let next : next_terminal c.place.new.tokens ≡ Some x.Attempt = cc in
     let e : c.into_inner-value-in-Some-Attempt.result ≡ c.in_ok-value-in-Some-Attempt.value = c.into_inner-value-in-Some-Attempt.ensures in
-    rw e (r.stated _ _ _ _ (view.statement_of-Attempt _ _ _ _) (r.reads-attempt _ _ _ _ _ _ _ _ c.line-line.ensures c.in_ok-place.ensures.ok next c.bump-in-Some-Attempt.ensures c.in_ok-value-in-Some-Attempt.ensures.ok))
+    let p : c.into_inner-place-in-Some-Attempt.result ≡ c.in_ok-place.place = c.into_inner-place-in-Some-Attempt.ensures ∙ c.new-place.ensures in
+    rw (p, e) (r.stated _ _ _ _ (view.statement_of-Attempt _ _ _ _) (r.reads-attempt _ _ _ _ _ _ _ _ c.line-line.ensures c.in_ok-place.ensures.ok next c.bump-in-Some-Attempt.ensures c.in_ok-value-in-Some-Attempt.ensures.ok))
 
 pub returns-in_ok-sign-in-Some-Open-clause-ok : goal.returns-in_ok-sign-in-Some-Open-clause-ok
 returns-in_ok-sign-in-Some-Open-clause-ok c =
     let next : next_terminal c.place.new.tokens ≡ Some x.Open = cc in
-    r.stated _ _ _ _ (view.statement_of-Call _ _ _ _) (r.reads-call _ _ _ _ _ _ _ _ _ c.line-line.ensures c.in_ok-place.ensures.ok next c.bump-in-Some-Open.ensures c.in_ok-arguments-in-Some-Open.ensures.ok c.in_ok-sign-in-Some-Open.ensures.ok)
+    let p : c.into_inner-place-in-Some-Open.result ≡ c.in_ok-place.place = c.into_inner-place-in-Some-Open.ensures ∙ c.new-place.ensures in
+    rw p (r.stated _ _ _ _ (view.statement_of-Call _ _ _ _) (r.reads-call _ _ _ _ _ _ _ _ _ c.line-line.ensures c.in_ok-place.ensures.ok next c.bump-in-Some-Open.ensures c.in_ok-arguments-in-Some-Open.ensures.ok c.in_ok-sign-in-Some-Open.ensures.ok))
 
 pub returns-in_default-clause-err : goal.returns-in_default-clause-err
 returns-in_default-clause-err c =

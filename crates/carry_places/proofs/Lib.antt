@@ -1,0 +1,9 @@
+pub mod Carried
+pub mod Origins
+pub mod OldValues
+pub mod Places
+pub mod Rows
+pub mod AnyRows
+pub mod Writes
+pub mod StoreWrites
+pub mod Examples

@@ -1,0 +1,5 @@
+pub mod Places
+pub mod PlaceLaws
+pub mod Writes
+pub mod StoreWrites
+pub mod WriteLaws

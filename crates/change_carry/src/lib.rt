@@ -1,0 +1,10 @@
+//! What the values of a program that replaces another one get from the values of that one.
+#![tactic(auto)]
+
+mod carry;
+mod numbers;
+mod parts;
+mod references;
+mod store;
+
+pub use store::carry_store;

@@ -1,0 +1,4 @@
+pub mod Numbers
+pub mod Private
+pub mod Shape
+pub mod Unfolding
