@@ -3,15 +3,15 @@
 ghost use Rattle.std.specs.Prelude.{◌≡◌, IfOk, map, slice_set};
 ghost use Rattle.st_meaning.specs.Call as words;
 ghost use Rattle.st_values.specs.View.{program_of};
-ghost use Rattle.st_initial.specs.Members as tables;
-ghost use Rattle.st_initial.specs.Variables.{variable_of, variables_of};
+ghost use Rattle.initial_trees.specs.Members as tables;
+ghost use Rattle.initial_trees.specs.Variables.{variable_of, variables_of};
 ghost use Rattle.run_state.specs.State.{slot_of};
 
 use initial_trees::initial_value;
+use initial_trees::st_initial::{Members, Variable};
 use plc_series::Series;
 use plc_text::NoMemory;
 use run_state::Slot;
-use st_initial::{Members, Variable};
 use st_tree::{Program, SectionSort};
 use std::alloc::Global;
 use value_trees::Value;

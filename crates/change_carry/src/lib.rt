@@ -7,4 +7,6 @@ mod parts;
 mod references;
 mod store;
 
+pub use change_paths;
+pub use change_paths::change_names;
 pub use store::carry_store;

@@ -8,6 +8,7 @@ mod regions;
 mod side;
 mod structures;
 
+pub use change_pairs;
 pub use names::ChangeNames;
 pub use regions::RegionNumbers;
 pub use side::Side;

@@ -10,5 +10,6 @@ mod ways;
 mod which;
 
 pub use change::Change;
+pub use change_names;
 pub use numbers::FieldNumbers;
 pub use paths::{new_path, old_path};

@@ -7,7 +7,7 @@ ghost use Rattle.change_paths.specs.Numbers.{AreFieldNumbers};
 ghost use Rattle.change_paths.specs.Private.Places.{FindIn, FindsIn};
 
 use change_names::Side;
-use change_pairs::{Places, put_name};
+use change_names::change_pairs::{Places, put_name};
 use plc_text::{Items, NoMemory};
 use st_initial::Variable;
 use std::alloc::Global;

@@ -14,7 +14,7 @@ ghost use Rattle.change_paths.specs.Private.Walk.{way_is};
 use crate::change::Change;
 use crate::ways::Way;
 use crate::which::Which;
-use change_pairs::PairTable;
+use change_names::change_pairs::PairTable;
 use plc_text::Text;
 use shape_trees::Shape;
 

@@ -11,7 +11,7 @@ ghost use Rattle.change_paths.specs.Private.Walk.{number_in, way_is};
 
 use crate::change::Change;
 use crate::which::{Which, numbers};
-use change_pairs::{Places, place_of};
+use change_names::change_pairs::{Places, place_of};
 use plc_text::{Items, Text};
 use shape_trees::{Field, Shape};
 use st_tree::Step;

@@ -20,10 +20,10 @@ use Rattle.class_rules.specs.declared.parts.CheckedClass.{CheckedClass}
 use Rattle.class_rules.specs.Classes.{ChecksClass}
 use Rattle.entry_rules.specs.declared.entries.CheckedEntry.{CheckedEntry}
 use Rattle.entry_rules.specs.Entries.{ChecksEntry, entry_faults}
-use Rattle.function_rules.specs.declared.functions.CheckedFunction.{CheckedFunction}
-use Rattle.function_rules.specs.declared.programs.CheckedProgram.{CheckedProgram}
-use Rattle.function_rules.specs.Functions.{ChecksFunction}
-use Rattle.function_rules.specs.Programs.{ChecksProgram}
+use Rattle.interface_rules.specs.CheckedFunction.{CheckedFunction}
+use Rattle.interface_rules.specs.CheckedProgram.{CheckedProgram}
+use Rattle.interface_rules.specs.Functions.{ChecksFunction}
+use Rattle.interface_rules.specs.Programs.{ChecksProgram}
 use Rattle.interface_rules.specs.declared.interfaces.CheckedInterface.{CheckedInterface}
 use Rattle.interface_rules.specs.Interfaces.{ChecksInterface}
 use Rattle.passing_laws.specs.Passing.{At, faults_here, placed_at, with_any}

@@ -12,13 +12,13 @@ ghost use Rattle.passing_laws.specs.Passing.{At, faults_here, with_any};
 ghost use Rattle.checked_declarations.specs.SoFar.{Breaks, Passed};
 
 use crate::so_far::{Bad, CheckedSoFar, settle};
+use class_rules::unit_tables::UnitTables;
 use class_rules::{CheckedClass, ClassSide, check_class};
 use declaration_list::Declared;
 use plc_text::Code;
 use st_rules::{earlier, when};
 use st_tree::ClassDecl;
 use std::alloc::Global;
-use unit_tables::UnitTables;
 
 /// A unit has at most so many classes and function blocks.
 const CLASSES: u32 = 1_024;

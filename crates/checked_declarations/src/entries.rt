@@ -7,13 +7,13 @@ ghost use Rattle.passing_laws.specs.Passing.{At, faults_here, with_any};
 ghost use Rattle.checked_declarations.specs.SoFar.{Breaks, Passed};
 
 use crate::so_far::{Bad, CheckedSoFar, settle};
+use class_rules::unit_tables::UnitTables;
 use declaration_list::Declared;
 use entry_rules::{CheckedEntry, check_entry};
 use st_rules::earlier;
 use st_scope::Scope;
 use st_tree::TypeDecl;
 use std::alloc::Global;
-use unit_tables::UnitTables;
 
 /// Checks an entry of TYPE behind what was checked, in the scope of the unit.
 pub fn pass_entry(

@@ -7,12 +7,12 @@ ghost use Rattle.checked_declarations.specs.SoFar.{Breaks, Passed};
 
 use crate::so_far::{Bad, CheckedSoFar, settle};
 use base_limits::InterfaceHeights;
+use class_rules::unit_tables::UnitTables;
 use declaration_list::Declared;
 use interface_rules::{CheckedInterface, check_interface};
 use st_rules::earlier;
 use st_tree::InterfaceDecl;
 use std::alloc::Global;
-use unit_tables::UnitTables;
 
 /// Checks an interface behind what was checked.
 pub fn pass_interface(

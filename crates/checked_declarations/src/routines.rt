@@ -6,12 +6,14 @@ ghost use Rattle.passing_laws.specs.Passing.{At, faults_here, with_any};
 ghost use Rattle.checked_declarations.specs.SoFar.{Breaks, Passed};
 
 use crate::so_far::{Bad, CheckedSoFar, settle};
+use class_rules::unit_tables::UnitTables;
 use declaration_list::Declared;
-use function_rules::{CheckedFunction, CheckedProgram, check_function, check_program};
+use interface_rules::function_rules::{
+    CheckedFunction, CheckedProgram, check_function, check_program,
+};
 use st_rules::earlier;
 use st_tree::{FunctionDecl, ProgramDecl};
 use std::alloc::Global;
-use unit_tables::UnitTables;
 
 /// Checks a function behind what was checked.
 pub fn pass_function(

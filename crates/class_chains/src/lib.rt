@@ -7,3 +7,4 @@ mod chains;
 
 pub use cells::Cell;
 pub use chains::ClassChains;
+pub use class_tables;

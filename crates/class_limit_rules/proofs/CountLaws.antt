@@ -18,7 +18,7 @@ use Rattle.st_calls.specs.Parameters.{parameters_of}
 use Rattle.st_unit_rules.specs.DeclarationRules.{body_locals}
 use Rattle.st_unit_rules.specs.Limits.{too_many_methods, too_many_parameters, too_many_locals, too_many_bases, variable_values, all_values, sum_of}
 use Rattle.type_sizes.specs.Size.{capped}
-use Rattle.initial_rules.proofs.Parts.{joined}
+use Rattle.depth_rules.proofs.Parts.{joined}
 use Rattle.class_limit_rules.specs.Private.Counts.{counted}
 
 -- ---- methods

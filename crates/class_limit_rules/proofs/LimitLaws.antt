@@ -25,7 +25,7 @@ use Rattle.st_unit_rules.specs.DeclarationRules.{class_too_deep, item_too_deep, 
 use Rattle.st_unit_rules.specs.Limits.{has_depth}
 use Rattle.type_sizes.specs.declared.sizes.TypeSizes.{TypeSizes}
 use Rattle.type_sizes.specs.Sizes.{Measures}
-use Rattle.initial_rules.proofs.Parts.{joined}
+use Rattle.depth_rules.proofs.Parts.{joined}
 use Rattle.class_limit_rules.specs.Private.Counts.{counted}
 use Rattle.class_limit_rules.specs.Private.Limits.{depths}
 

@@ -13,7 +13,7 @@ ghost use Rattle.class_limit_rules.specs.Private.Counts.{counted};
 
 use base_limits::too_many_bases;
 use class_tables::ClassTables;
-use limit_rules::{add_body_values, methods_fault, too_many_locals};
+use depth_rules::limit_rules::{add_body_values, methods_fault, too_many_locals};
 use plc_text::{Code, NoMemory};
 use st_calls::block_parameters;
 use st_rules::{earlier, when};

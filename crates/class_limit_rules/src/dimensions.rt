@@ -9,10 +9,10 @@ ghost use Rattle.declaration_list.specs.Written.{global_of, names_in_sections};
 ghost use Rattle.class_limit_rules.specs.Private.Dimensions.{first_has_too_many};
 
 use declaration_list::WrittenName;
+use depth_rules::type_rules::check_type;
 use plc_text::NoMemory;
 use st_scope::Scope;
 use std::alloc::Global;
-use type_rules::check_type;
 
 fn either(one: bool, other: bool) -> bool
     ensures { result ≡ (one || other) }

@@ -6,3 +6,4 @@ mod dimensions;
 mod limits;
 
 pub use limits::class_limit_fault;
+pub use unit_tables;

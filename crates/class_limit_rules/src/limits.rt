@@ -13,7 +13,7 @@ use crate::dimensions::kept_have_too_many;
 use declaration_list::written_members;
 use declared_graph::DeclaredGraph;
 use depth_rules::body_depth_fault;
-use limit_rules::class_too_deep;
+use depth_rules::limit_rules::class_too_deep;
 use plc_text::{Code, NoMemory};
 use st_rules::earlier;
 use st_scope::Scope;

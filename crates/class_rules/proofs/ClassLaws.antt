@@ -24,7 +24,7 @@ use Rattle.st_unit_rules.specs.DeclarationRules.{base_not_found, class_declarati
 use Rattle.st_unit_rules.specs.NameRules.{member_name_faults, word_twice}
 use Rattle.st_unit_rules.specs.VariableRules.{sections_faults}
 use Rattle.st_unit_rules.specs.Worth.{same_worth}
-use Rattle.initial_rules.proofs.Parts.{joined}
+use Rattle.base_rules.proofs.Parts.{joined}
 use Rattle.member_rules.proofs.MemberLaws.{none_behind}
 use Rattle.class_rules.specs.declared.parts.Broken.{Broken}
 use Rattle.class_rules.specs.declared.parts.CheckedClass.{CheckedClass}

@@ -27,8 +27,8 @@ use Rattle.st_unit_rules.specs.VariableRules.{Home}
 use Rattle.st_unit_rules.specs.Worth.{same_worth}
 use Rattle.base_rules.specs.Used.{ChecksBase, ChecksInterfaces}
 use Rattle.member_rules.specs.Members.{ChecksMembers}
-use Rattle.routine_rules.specs.Bodies.{FindsBody}
-use Rattle.unit_tables.specs.Scopes.{scope_in}
+use Rattle.member_rules.specs.Bodies.{FindsBody}
+use Rattle.class_limit_rules.specs.Scopes.{scope_in}
 use Rattle.class_rules.specs.declared.parts.Broken.{Broken}
 use Rattle.class_rules.specs.declared.parts.Trees.{Trees}
 use Rattle.class_rules.specs.Private.Classes.{BrokenBy, TreesFound}

@@ -6,25 +6,25 @@ ghost use Rattle.st_rules.specs.Faults.{least};
 ghost use Rattle.st_unit_rules.specs.DeclarationRules as rules;
 ghost use Rattle.member_names.specs.Known.{Knows};
 ghost use Rattle.numbered_signatures.specs.Signatures.{Tells};
-ghost use Rattle.unit_tables.specs.Scopes.{scope_in};
+ghost use Rattle.class_limit_rules.specs.Scopes.{scope_in};
 ghost use Rattle.class_rules.specs.Classes.{ChecksClass};
 ghost use Rattle.class_rules.specs.Private.Classes.{BrokenBy, TreesFound};
 
 use crate::parts::{Broken, CheckedClass, Trees, class_of, heading_of, home};
 use base_rules::{check_base, check_interfaces};
 use class_limit_rules::class_limit_fault;
+use class_limit_rules::unit_tables::UnitTables;
 use declaration_list::written_members;
 use declared_graph::inner_cycles_fault;
 use member_names::{MemberNames, member_name_fault};
 use member_rules::check_members;
+use member_rules::routine_rules::body_found;
 use name_spaces::word_twice;
 use numbered_signatures::NumberedSignatures;
 use plc_text::{Code, NoMemory};
-use routine_rules::body_found;
 use st_scope::Scope;
 use st_tree::ClassDecl;
 use std::alloc::Global;
-use unit_tables::UnitTables;
 
 /// What classes are checked by, beside the tables of the unit.
 #[derive(Clone, Copy)]

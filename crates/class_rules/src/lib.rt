@@ -4,5 +4,6 @@
 mod classes;
 mod parts;
 
+pub use class_limit_rules::unit_tables;
 pub use classes::{ClassSide, check_class};
 pub use parts::CheckedClass;

@@ -8,8 +8,8 @@ ghost use Rattle.class_rules.specs.Private.Parts.{IsClass, IsHeading, least_of};
 
 use base_rules::{CheckedBase, CheckedInterfaces};
 use member_rules::CheckedMembers;
+use member_rules::routine_rules::FoundBody;
 use plc_text::{Code, Items, NoMemory};
-use routine_rules::FoundBody;
 use section_rules::Home;
 use st_rules::earlier;
 use st_tree::{ClassDecl, ClassSort, Modifier, Name, Note};

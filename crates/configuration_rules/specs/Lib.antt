@@ -1,2 +1,3 @@
 pub mod Configurations
 pub mod Private
+pub use Rattle.program_instances.specs.Programs

@@ -16,11 +16,11 @@ use name_rules::configuration_name_fault;
 use name_spaces::HeldNames;
 use plc_text::{Code, Items, NoMemory};
 use program_instances::UnitPrograms;
+use program_instances::unit_tables::UnitTables;
 use region_rules::TakenRegions;
 use st_rules::{earlier, when};
 use st_tree::{Configuration, RegionDecl};
 use std::alloc::Global;
-use unit_tables::UnitTables;
 
 /// What is found out about a configuration.
 #[derive(Drop)]

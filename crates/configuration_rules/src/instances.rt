@@ -4,12 +4,12 @@ ghost use Rattle.std.specs.Prelude.{◌≡◌, [], true, IfOk, OnOk};
 ghost use Rattle.configuration_rules.specs.Private.Instances.{Adds, Checks};
 
 use plc_text::{Code, Items, NoMemory};
+use program_instances::unit_tables::UnitTables;
 use program_instances::{CheckedInstance, UnitPrograms, check_instance};
 use region_rules::TakenRegions;
 use st_rules::earlier;
 use st_tree::{InstanceSpec, RegionDecl};
 use std::alloc::Global;
-use unit_tables::UnitTables;
 
 /// What is found out about instances.
 #[derive(Drop)]

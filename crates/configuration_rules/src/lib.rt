@@ -5,3 +5,4 @@ mod configurations;
 mod instances;
 
 pub use configurations::{CheckedConfiguration, check_configuration};
+pub use program_instances;

@@ -11,13 +11,13 @@ ghost use Rattle.constant_faults.specs.Valued.{IsWorth};
 ghost use Rattle.constant_faults.specs.Private.Leaves.{is_leaf};
 
 use crate::valued::Valued;
+use constant_rules::st_scope::Scope;
 use constant_values::{negative_value, noted_value};
 use plc_text::{NoMemory, Text};
 use st_check_expr::check;
-use st_expr_parts::Checked;
+use st_check_expr::st_expr_parts::Checked;
 use st_operators::negative_type;
 use st_rules::Asked;
-use st_scope::Scope;
 use st_tree::Expr;
 use std::alloc::Global;
 

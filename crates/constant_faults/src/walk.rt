@@ -16,13 +16,13 @@ use crate::rows::{
     Ahead, Row, asked_nothing, began, behind, ended_by, joined, operand_asked, to_the_end,
 };
 use crate::valued::{Valued, behind_not, behind_sign};
+use constant_rules::st_scope::Scope;
 use constant_values::{Outcome, converted};
 use plc_text::NoMemory;
-use st_calls::{Callee, call_type, callee_at};
-use st_expr_parts::{as_int, front_asked, is_untyped};
+use st_check_expr::st_calls::{Callee, call_type, callee_at};
+use st_check_expr::st_expr_parts::{as_int, front_asked, is_untyped};
 use st_operators::{is_arithmetic, number_asked};
 use st_rules::Asked;
-use st_scope::Scope;
 use st_tree::{Argument, Expr, Place, Tail};
 use st_types::{Elem, StType};
 use std::alloc::Global;

@@ -5,3 +5,5 @@ mod parts;
 mod places;
 
 pub use parts::constant_part_fault;
+pub use st_places;
+pub use st_places::{iface_tables, st_scope};

@@ -11,8 +11,8 @@ ghost use Rattle.constant_rules.specs.Private.Parts.{argument_part, place_part};
 
 use crate::places::{constant_place_fault, is_conversion};
 use plc_text::Code;
+use st_places::st_scope::Scope;
 use st_rules::{at, earlier};
-use st_scope::Scope;
 use st_tree::{Argument, Expr, Place, Tail};
 
 /// E05 where a place is no constant.

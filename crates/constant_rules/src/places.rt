@@ -10,9 +10,9 @@ ghost use Rattle.declared_names.specs.Constants as constants;
 ghost use Rattle.constant_rules.specs.Private.Places as own;
 
 use plc_text::{Code, Text};
+use st_places::st_scope::{Meant, Qualifier, Scope};
 use st_places::{conversion_named, is_last, root_line};
 use st_rules::when;
-use st_scope::{Meant, Qualifier, Scope};
 use st_tree::{Root, Selector};
 
 /// Whether the name is that of a constant or an enumerator.

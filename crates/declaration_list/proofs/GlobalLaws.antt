@@ -3,10 +3,10 @@ use Rattle.std.proofs.Common.{◌≡◌, ℕ, Bool, true, false, List, [], ◌�
 use Rattle.std.specs.Prelude.{flat_map}
 use Rattle.std.proofs.lemmas.List.{map-append}
 use Rattle.std.proofs.lemmas.Grind.{flat_map-append}
-use Rattle.st_tree.specs.declared.declaration.Item.{Item}
-use Rattle.st_tree.specs.declared.declaration.Section.{Section}
-use Rattle.st_tree.specs.declared.declaration.Member.{Member}
-use Rattle.st_rules.proofs.ListLaws.{drop-end}
+use Rattle.declared_names.specs.Item.{Item}
+use Rattle.declared_names.specs.Section.{Section}
+use Rattle.declared_names.specs.Member.{Member}
+use Rattle.declared_names.proofs.ListLaws.{drop-end}
 use Rattle.declared_names.specs.Variables.{Written, item_written, section_written, sections_written, sections_in}
 use Rattle.declared_names.specs.Declarations.{Global, a_global, globals_of_item, globals_of_section}
 use Rattle.declaration_list.specs.declared.written.WrittenName.{WrittenName}

@@ -1,9 +1,9 @@
 -- The names that sections declare, one by one, and such a name as the code lends it.
 use Rattle.std.specs.Prelude.{ℕ, Bool, true, false, List, [], ◌∷◌, flat_map}
-use Rattle.st_tree.specs.declared.declaration.Item.{Item}
-use Rattle.st_tree.specs.declared.declaration.Section.{Section}
-use Rattle.st_tree.specs.declared.name.Name.{Name}
-use Rattle.st_rules.specs.Modifiers.{written_access}
+use Rattle.declared_names.specs.Item.{Item}
+use Rattle.declared_names.specs.Section.{Section}
+use Rattle.declared_names.specs.Name.{Name}
+use Rattle.declared_names.specs.Modifiers.{written_access}
 use Rattle.declared_names.specs.Variables.{Written, declares_constants, section_access, item_written}
 use Rattle.declared_names.specs.Declarations.{Global}
 use Rattle.declaration_list.specs.declared.written.WrittenName.{WrittenName}

@@ -7,11 +7,11 @@ ghost use Rattle.declaration_list.specs.Listed.{declared_as};
 ghost use Rattle.declaration_list.specs.Written.{global_of};
 
 use crate::written::{WrittenName, add_sections, item_line, section_names};
-use plc_text::NoMemory;
-use st_tree::{
+use declared_names::st_tree::{
     ClassDecl, Configuration, Decl, FunctionDecl, InterfaceDecl, Name, ProgramDecl, Resource,
     Section, TypeDecl,
 };
+use plc_text::NoMemory;
 use std::alloc::Global;
 
 /// A declaration of a unit: an entry of TYPE, a global, or another one.

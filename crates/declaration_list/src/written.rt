@@ -4,12 +4,12 @@ ghost use Rattle.std.specs.Prelude.{◌≡◌, ◌∷◌, [], ◌++◌, true, ma
 ghost use Rattle.declared_names.specs.Declarations as declarations;
 ghost use Rattle.declared_names.specs.Variables as variables;
 ghost use Rattle.declared_names.specs.Variables.{sections_in, sections_written};
-ghost use Rattle.st_rules.specs.Modifiers as modifiers;
-ghost use Rattle.st_rules.specs.Scope as scope;
+ghost use Rattle.declared_names.specs.Modifiers as modifiers;
+ghost use Rattle.declared_names.specs.Scope as scope;
 ghost use Rattle.declaration_list.specs.Written.{written_in, global_of, written_of, names_from, names_in_item, names_in_section, names_in_sections};
 
+use declared_names::st_tree::{Item, Member, Modifier, Name, Section, SectionSort};
 use plc_text::NoMemory;
-use st_tree::{Item, Member, Modifier, Name, Section, SectionSort};
 use std::alloc::Global;
 
 /// A name that is declared, with its section and its item.

@@ -5,3 +5,4 @@
 mod laws;
 
 pub use laws::constant_laws;
+pub use st_tree;

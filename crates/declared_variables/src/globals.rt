@@ -12,9 +12,9 @@ use crate::names::{ToldName, told_names, told_section};
 use plc_series::Series;
 use plc_text::NoMemory;
 use st_rules::DeclaredGlobal;
-use st_scope::Scope;
 use st_tree::{Section, Target};
 use std::alloc::Global;
+use written_types::st_scope::Scope;
 
 /// Adds a global, which has this region where it is no constant; the number of the region behind it.
 #[tactic(auto, using(crate::proofs::NumberLaws::global_added))]

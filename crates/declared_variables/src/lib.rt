@@ -9,3 +9,4 @@ mod names;
 pub use globals::{add_globals, add_section_globals};
 pub use locals::declared_locals;
 pub use members::{declared_members, declared_program};
+pub use written_types::{iface_tables, st_scope};

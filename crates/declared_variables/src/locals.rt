@@ -15,9 +15,9 @@ use declaration_list::WrittenName;
 use plc_series::Series;
 use plc_text::{NoMemory, Text};
 use st_rules::{Access, DeclaredVariable};
-use st_scope::Scope;
 use st_tree::{Name, Section, SectionSort, Target, TypeSpec};
 use std::alloc::Global;
+use written_types::st_scope::Scope;
 use written_types::type_written;
 
 fn is_parameter_sort(sort: SectionSort) -> bool

@@ -12,10 +12,10 @@ use declaration_list::written_names;
 use plc_series::Series;
 use plc_text::NoMemory;
 use st_rules::DeclaredVariable;
-use st_scope::Scope;
 use st_tree::{Member, Section, Target};
 use std::alloc::Global;
 use untold_names::{untold_members, untold_variable};
+use written_types::st_scope::Scope;
 
 /// The number behind, where this one is taken.
 pub fn number_behind(taken: bool, number: u32) -> Result<u32, NoMemory>

@@ -9,10 +9,10 @@ ghost use Rattle.declared_variables.specs.Private.Told as own;
 
 use declaration_list::WrittenName;
 use plc_text::NoMemory;
-use st_scope::Scope;
 use st_tree::{Item, Member, Name, Section};
 use st_types::StType;
 use std::alloc::Global;
+use written_types::st_scope::Scope;
 use written_types::{constant_of, type_written};
 
 /// A name, its type, and the value of a constant, where they can be told.

@@ -12,8 +12,8 @@ use Rattle.declared_names.specs.Declarations.{declarations}
 use Rattle.declared_names.specs.WrittenTypes.{type_written, has_too_many_dimensions}
 use Rattle.st_unit_rules.specs.DeclarationRules.{item_too_deep, items_in, result_too_deep}
 use Rattle.st_unit_rules.specs.Limits.{too_deep}
-use Rattle.type_sizes.specs.declared.sizes.TypeSizes.{TypeSizes}
-use Rattle.type_sizes.specs.Sizes.{Measures}
+use Rattle.limit_rules.specs.TypeSizes.{TypeSizes}
+use Rattle.limit_rules.specs.Sizes.{Measures}
 use Rattle.type_rules.specs.declared.types.CheckedType.{CheckedType}
 use Rattle.type_rules.specs.Types.{ChecksType}
 

@@ -5,11 +5,12 @@ ghost use Rattle.st_rules.specs.Faults.{least};
 ghost use Rattle.declared_names.specs.Declarations.{declarations};
 ghost use Rattle.st_unit_rules.specs.DeclarationRules as rules;
 ghost use Rattle.st_unit_rules.specs.Limits as limits;
-ghost use Rattle.type_sizes.specs.Sizes.{Measures};
+ghost use Rattle.limit_rules.specs.Sizes.{Measures};
 ghost use Rattle.limit_rules.specs.Depths.{allowed};
 
 use declaration_list::item_line;
-use declared_graph::DeclaredGraph;
+use limit_rules::declared_graph::DeclaredGraph;
+use limit_rules::type_sizes::TypeSizes;
 use limit_rules::{Within, too_deep};
 use plc_text::{Code, NoMemory};
 use st_rules::earlier;
@@ -17,7 +18,6 @@ use st_scope::Scope;
 use st_tree::{Item, Section, TypeSpec};
 use std::alloc::Global;
 use type_rules::check_type;
-use type_sizes::TypeSizes;
 
 /// E16 at the line, where a written type has too many steps of containment, or too many dimensions. The sizes are those of the unit
 /// that the scope sees. It takes time linear in the text.

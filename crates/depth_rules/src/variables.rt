@@ -9,19 +9,19 @@ ghost use Rattle.declared_names.specs.Variables.{is_kept_written, is_body_writte
 ghost use Rattle.declaration_list.specs.Written.{global_of, written_of, names_in_sections};
 ghost use Rattle.st_unit_rules.specs.DeclarationRules as rules;
 ghost use Rattle.st_unit_rules.specs.Limits as limits;
-ghost use Rattle.type_sizes.specs.Sizes.{Measures};
+ghost use Rattle.limit_rules.specs.Sizes.{Measures};
 ghost use Rattle.depth_rules.specs.Private.Variables.{in_program, with_first};
 
 use crate::depths::type_depth_fault;
 use declaration_list::{WrittenName, item_line};
-use declared_graph::DeclaredGraph;
 use limit_rules::Within;
+use limit_rules::declared_graph::DeclaredGraph;
+use limit_rules::type_sizes::TypeSizes;
 use plc_text::{Code, NoMemory};
 use st_rules::earlier;
 use st_scope::Scope;
 use st_tree::SectionSort;
 use std::alloc::Global;
-use type_sizes::TypeSizes;
 
 fn is_body_sort(sort: SectionSort) -> bool
     ensures { result ≡ scope.is_body_sort sort }

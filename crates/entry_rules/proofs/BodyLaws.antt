@@ -27,9 +27,9 @@ use Rattle.st_unit_rules.specs.NameRules.{space_faults, part_names}
 use Rattle.st_unit_rules.specs.VariableRules.{initial_if_given, instance_out_of_place}
 use Rattle.type_sizes.specs.declared.sizes.TypeSizes.{TypeSizes}
 use Rattle.type_sizes.specs.Sizes.{Measures}
-use Rattle.initial_rules.proofs.Parts.{joined}
-use Rattle.type_rules.specs.declared.types.CheckedType.{CheckedType}
-use Rattle.type_rules.specs.Types.{ChecksType}
+use Rattle.variable_rules.proofs.Parts.{joined}
+use Rattle.variable_rules.specs.CheckedType.{CheckedType}
+use Rattle.variable_rules.specs.Types.{ChecksType}
 use Rattle.entry_rules.specs.declared.bodies.CheckedBody.{CheckedBody}
 use Rattle.entry_rules.specs.declared.entries.CheckedEntry.{CheckedEntry}
 use Rattle.entry_rules.specs.declared.groups.CheckedGroups.{CheckedGroups}

@@ -16,9 +16,9 @@ use Rattle.declared_names.specs.Declarations.{item_line_of}
 use Rattle.declared_names.specs.WrittenTypes.{type_written, type_faults, has_too_many_dimensions}
 use Rattle.st_unit_rules.specs.Checked.{Each, IfThere, TypedGroup, TypedInitial, TypedSpec}
 use Rattle.st_unit_rules.specs.VariableRules.{instance_out_of_place, initial_if_given}
-use Rattle.initial_rules.proofs.Parts.{joined}
-use Rattle.type_rules.specs.declared.types.CheckedType.{CheckedType}
-use Rattle.type_rules.specs.Types.{ChecksType}
+use Rattle.variable_rules.proofs.Parts.{joined}
+use Rattle.variable_rules.specs.CheckedType.{CheckedType}
+use Rattle.variable_rules.specs.Types.{ChecksType}
 use Rattle.variable_rules.specs.declared.given.CheckedGiven.{CheckedGiven}
 use Rattle.variable_rules.specs.Given.{ChecksGiven}
 use Rattle.variable_rules.proofs.EachLaws.{EachTo, each_begun, each_next, each_least, each_trees}

@@ -13,9 +13,9 @@ use st_rules::earlier;
 use st_scope::Scope;
 use st_tree::{Name, Note, TypeBody};
 use std::alloc::Global;
-use type_rules::{CheckedType, check_type};
 use type_sizes::TypeSizes;
 use variable_rules::copied_names;
+use variable_rules::type_rules::{CheckedType, check_type};
 
 /// What is found out about what a name stands for, with its depth.
 #[derive(Drop)]

@@ -10,7 +10,7 @@ use st_rules::earlier;
 use st_scope::Scope;
 use st_tree::{FieldGroup, Name, Note};
 use std::alloc::Global;
-use type_rules::{CheckedType, check_type};
+use variable_rules::type_rules::{CheckedType, check_type};
 use variable_rules::{CheckedGiven, check_given, copied_names};
 
 /// What is found out about fields that share what is written behind their names.

@@ -16,7 +16,7 @@ use Rattle.st_unit_rules.specs.Checked.{Each, IfThere, TypedBody, TypedSection, 
 use Rattle.st_unit_rules.specs.DeclarationRules.{routine_faults, function_faults}
 use Rattle.st_unit_rules.specs.NameRules.{local_name_faults}
 use Rattle.st_unit_rules.specs.VariableRules.{of_routine}
-use Rattle.initial_rules.proofs.Parts.{joined}
+use Rattle.routine_rules.proofs.Parts.{joined}
 use Rattle.routine_rules.specs.declared.routines.CheckedRoutine.{CheckedRoutine}
 use Rattle.routine_rules.specs.Routines.{ChecksRoutine}
 use Rattle.unit_tables.specs.Scopes.{scope_in}

@@ -28,9 +28,9 @@ use Rattle.st_unit_rules.specs.VariableRules.{of_program, sections_faults}
 use Rattle.type_sizes.specs.declared.sizes.TypeSizes.{TypeSizes}
 use Rattle.type_sizes.specs.Size.{capped}
 use Rattle.type_sizes.specs.Sizes.{Measures}
-use Rattle.initial_rules.proofs.Parts.{joined}
-use Rattle.variable_rules.specs.declared.sections.CheckedSections.{CheckedSections}
-use Rattle.variable_rules.specs.Sections.{ChecksSections}
+use Rattle.routine_rules.proofs.Parts.{joined}
+use Rattle.routine_rules.specs.CheckedSections.{CheckedSections}
+use Rattle.routine_rules.specs.Sections.{ChecksSections}
 use Rattle.routine_rules.specs.declared.bodies.FoundBody.{FoundBody}
 use Rattle.routine_rules.specs.Bodies.{FindsBody}
 use Rattle.unit_tables.specs.Scopes.{scope_in}

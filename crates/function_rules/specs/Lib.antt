@@ -1,3 +1,12 @@
 pub mod Functions
 pub mod Programs
 pub mod Private
+pub use Rattle.unit_tables.specs.Scopes
+pub use Rattle.routine_rules.specs.Parts
+pub use Rattle.routine_rules.specs.declared.routines.CheckedRoutine
+pub use Rattle.routine_rules.specs.declared.variables.CheckedVariables
+pub use Rattle.routine_rules.specs.Variables
+pub use Rattle.routine_rules.specs.Routines
+pub use Rattle.routine_rules.specs.Bodies
+pub use Rattle.routine_rules.specs.CheckedSection
+pub use Rattle.routine_rules.specs.Sections

@@ -6,16 +6,16 @@ ghost use Rattle.function_rules.specs.Functions.{ChecksFunction};
 ghost use Rattle.function_rules.specs.Private.Functions.{IsFunction, FunctionIn};
 
 use crate::parts::parts_of;
-use name_rules::local_name_fault;
 use plc_text::{Code, NoMemory};
+use routine_rules::name_rules::local_name_fault;
 use routine_rules::{CheckedRoutine, UnitParts, check_routine};
 use section_rules::Home;
 use st_rules::{DeclaredVariable, earlier};
 use st_scope::Scope;
 use st_tree::{FunctionDecl, Name, Note};
 use std::alloc::Global;
-use told_locals::Declaring;
 use unit_tables::UnitTables;
+use unit_tables::told_locals::Declaring;
 
 /// What is found out about a function.
 #[derive(Drop)]

@@ -8,3 +8,7 @@ mod programs;
 pub use functions::{CheckedFunction, check_function};
 pub use parts::parts_of;
 pub use programs::{CheckedProgram, check_program};
+pub use routine_rules;
+pub use routine_rules::{name_rules, variable_rules};
+pub use unit_tables;
+pub use unit_tables::told_locals;

@@ -9,20 +9,20 @@ ghost use Rattle.function_rules.specs.Private.Programs.{cycles_and_limits, IsPro
 use crate::parts::parts_of;
 use declaration_list::written_names;
 use declared_graph::inner_cycles_fault;
-use depth_rules::{body_depth_fault, kept_depth_fault};
-use limit_rules::{add_body_values, parameters_fault, too_many_locals};
-use name_rules::space_fault;
 use name_spaces::section_names;
 use plc_text::{Code, NoMemory};
+use routine_rules::depth_rules::{body_depth_fault, kept_depth_fault};
+use routine_rules::limit_rules::{add_body_values, parameters_fault, too_many_locals};
+use routine_rules::name_rules::space_fault;
+use routine_rules::variable_rules::{CheckedSections, check_sections};
 use routine_rules::{FoundBody, UnitParts, body_found};
 use section_rules::Home;
 use st_rules::{DeclaredVariable, earlier};
 use st_scope::Scope;
 use st_tree::{Name, Note, ProgramDecl};
 use std::alloc::Global;
-use told_locals::Declaring;
 use unit_tables::UnitTables;
-use variable_rules::{CheckedSections, check_sections};
+use unit_tables::told_locals::Declaring;
 
 /// What is found out about a program.
 #[derive(Drop)]

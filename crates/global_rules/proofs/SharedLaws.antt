@@ -16,8 +16,8 @@ use Rattle.declared_names.specs.WrittenTypes.{type_written, has_too_many_dimensi
 use Rattle.st_unit_rules.specs.DeclarationRules.{unit, item_too_deep}
 use Rattle.st_unit_rules.specs.Limits.{too_deep}
 use Rattle.st_unit_rules.specs.VariableRules.{of_globals, item_faults}
-use Rattle.type_rules.specs.declared.types.CheckedType.{CheckedType}
-use Rattle.type_rules.specs.Types.{ChecksType}
+use Rattle.variable_rules.specs.CheckedType.{CheckedType}
+use Rattle.variable_rules.specs.Types.{ChecksType}
 use Rattle.type_sizes.specs.declared.sizes.TypeSizes.{TypeSizes}
 use Rattle.type_sizes.specs.Sizes.{Measures}
 use Rattle.variable_rules.specs.declared.items.CheckedItem.{CheckedItem}

@@ -14,8 +14,8 @@ use st_scope::Scope;
 use st_tree::{Item, Section};
 use st_types::StType;
 use std::alloc::Global;
-use type_rules::{CheckedType, check_type};
 use unit_tables::UnitTables;
+use variable_rules::type_rules::{CheckedType, check_type};
 use variable_rules::{CheckedItem, check_item};
 
 /// What is found out about an item of globals.

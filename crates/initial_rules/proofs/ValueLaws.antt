@@ -16,7 +16,7 @@ use Rattle.st_rules.specs.Literals.{asked_of}
 use Rattle.st_rules.specs.Scope.{Scope}
 use Rattle.declared_names.specs.Constants.{constant_faults, constant_value}
 use Rattle.st_unit_rules.specs.Initials.{Given, given_by, is_not_found, is_out_of_access, field_not_found, field_named_twice, field_out_of_access, outcome_target, with_note, typed_constant}
-use Rattle.constant_values.specs.Outcome.{outcome}
+use Rattle.constant_faults.specs.Outcome.{outcome}
 use Rattle.constant_faults.specs.declared.faults.Constant.{Constant}
 use Rattle.constant_faults.specs.Faults.{IsConstant}
 use Rattle.initial_rules.specs.declared.found.CheckedInitial.{CheckedInitial}

@@ -11,11 +11,11 @@ ghost use Rattle.initial_rules.specs.Fields.{meant};
 ghost use Rattle.initial_rules.specs.Lent.{lent};
 ghost use Rattle.initial_rules.specs.Private.Names.{name_faults};
 
+use constant_faults::st_places::note;
+use constant_faults::st_scope::Scope;
 use name_spaces::HeldNames;
 use plc_text::{Code, NoMemory, Text};
-use st_places::note;
 use st_rules::{DeclaredField, DeclaredVariable, earlier, when};
-use st_scope::Scope;
 use st_tree::{FieldInit, Init, Note, Target};
 use st_types::StType;
 use std::alloc::Global;

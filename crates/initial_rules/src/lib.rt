@@ -9,6 +9,7 @@ mod walk;
 mod wide;
 mod worth;
 
+pub use constant_faults;
 pub use found::CheckedInitial;
 pub use walk::check_initial;
 pub use worth::with_value;

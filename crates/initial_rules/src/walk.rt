@@ -15,12 +15,12 @@ use crate::nodes::{
     array_of, field_of, fields_of, no_field, no_part, one_of, repeated_of, with_field, with_part,
 };
 use crate::worth::with_value;
+use constant_faults::st_scope::Scope;
 use constant_faults::{Constant, check_constant};
 use name_spaces::HeldNames;
 use plc_text::{Code, NoMemory};
 use st_operators::asked_of;
 use st_rules::earlier;
-use st_scope::Scope;
 use st_tree::{Expr, FieldInit, Init, Part};
 use st_types::StType;
 use std::alloc::Global;

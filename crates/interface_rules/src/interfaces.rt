@@ -9,12 +9,12 @@ use crate::prototypes::{CheckedPrototypes, check_prototypes};
 use base_limits::InterfaceHeights;
 use base_rules::{CheckedInterfaces, check_interfaces};
 use limit_rules::methods_fault;
+use method_rules::unit_tables::UnitTables;
 use name_rules::prototype_name_fault;
 use plc_text::{Code, NoMemory};
 use st_rules::earlier;
 use st_tree::{InterfaceDecl, Name, Note};
 use std::alloc::Global;
-use unit_tables::UnitTables;
 
 /// What is found out about an interface.
 #[derive(Drop)]

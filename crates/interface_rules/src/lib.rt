@@ -5,3 +5,4 @@ mod interfaces;
 mod prototypes;
 
 pub use interfaces::{CheckedInterface, check_interface};
+pub use method_rules::function_rules;

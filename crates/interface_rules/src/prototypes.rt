@@ -4,12 +4,12 @@ ghost use Rattle.std.specs.Prelude.{IfOk};
 ghost use Rattle.interface_rules.specs.Prototypes.{ChecksPrototypes};
 ghost use Rattle.interface_rules.specs.Private.Prototypes.{AddsPrototype, NoPrototypes};
 
+use method_rules::unit_tables::UnitTables;
 use method_rules::{CheckedPrototype, check_prototype};
 use plc_text::{Code, Items, NoMemory};
 use st_rules::earlier;
 use st_tree::{Note, Prototype};
 use std::alloc::Global;
-use unit_tables::UnitTables;
 
 /// What is found out about methods of an interface.
 #[derive(Drop)]

@@ -4,3 +4,4 @@
 mod judge;
 
 pub use judge::Language;
+pub use source_check;

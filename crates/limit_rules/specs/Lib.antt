@@ -1,1 +1,3 @@
 pub mod Depths
+pub use Rattle.type_sizes.specs.Sizes
+pub use Rattle.type_sizes.specs.declared.sizes.TypeSizes

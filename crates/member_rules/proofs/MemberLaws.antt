@@ -20,9 +20,9 @@ use Rattle.st_unit_rules.specs.Checked.{Each, TypedMember}
 use Rattle.st_unit_rules.specs.DeclarationRules.{method_faults}
 use Rattle.st_unit_rules.specs.VariableRules.{Home, section_faults, sections_faults}
 pub use Rattle.method_rules.proofs.MethodLaws.{none_behind}
-use Rattle.variable_rules.specs.declared.sections.CheckedSection.{CheckedSection}
-use Rattle.variable_rules.specs.Sections.{ChecksSection}
-use Rattle.unit_tables.specs.Scopes.{scope_in}
+use Rattle.method_rules.specs.CheckedSection.{CheckedSection}
+use Rattle.method_rules.specs.Sections.{ChecksSection}
+use Rattle.method_rules.specs.Scopes.{scope_in}
 use Rattle.member_rules.specs.declared.members.CheckedMember.{CheckedMember}
 use Rattle.member_rules.specs.declared.members.CheckedMembers.{CheckedMembers}
 use Rattle.method_rules.specs.declared.methods.CheckedMethod.{CheckedMethod}

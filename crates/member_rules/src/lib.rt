@@ -4,3 +4,4 @@
 mod members;
 
 pub use members::{CheckedMembers, check_members};
+pub use method_rules::routine_rules;

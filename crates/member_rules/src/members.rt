@@ -2,10 +2,12 @@
 
 ghost use Rattle.std.specs.Prelude.{◌≡◌, Some, false, [], IfOk};
 ghost use Rattle.section_rules.specs.Home.{home_of};
-ghost use Rattle.unit_tables.specs.Scopes.{scope_in};
+ghost use Rattle.method_rules.specs.Scopes.{scope_in};
 ghost use Rattle.member_rules.specs.Members.{ChecksMembers};
 ghost use Rattle.member_rules.specs.Private.Members.{AddsMember, ChecksMember, IsMethodMember, IsSectionMember, NoMembers};
 
+use method_rules::unit_tables::UnitTables;
+use method_rules::variable_rules::{CheckedSection, check_section};
 use method_rules::{CheckedMethod, check_method};
 use plc_text::{Code, Items, NoMemory};
 use section_rules::Home;
@@ -13,8 +15,6 @@ use st_rules::earlier;
 use st_scope::Scope;
 use st_tree::{Member, Note};
 use std::alloc::Global;
-use unit_tables::UnitTables;
-use variable_rules::{CheckedSection, check_section};
 
 /// What is found out about the members of a class.
 #[derive(Drop)]

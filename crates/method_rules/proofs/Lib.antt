@@ -1,1 +1,2 @@
 pub mod MethodLaws
+pub use Rattle.function_rules.proofs.EachLaws

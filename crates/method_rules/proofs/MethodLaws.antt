@@ -18,12 +18,12 @@ use Rattle.st_unit_rules.specs.Checked.{Each, IfThere, TypedBody, TypedSection, 
 use Rattle.st_unit_rules.specs.DeclarationRules.{routine_faults}
 use Rattle.st_unit_rules.specs.NameRules.{local_name_faults, word_twice}
 use Rattle.st_unit_rules.specs.VariableRules.{of_routine, of_prototype}
-use Rattle.initial_rules.proofs.Parts.{joined}
-use Rattle.routine_rules.specs.declared.routines.CheckedRoutine.{CheckedRoutine}
-use Rattle.routine_rules.specs.declared.variables.CheckedVariables.{CheckedVariables}
-use Rattle.routine_rules.specs.Routines.{ChecksRoutine}
-use Rattle.routine_rules.specs.Variables.{ChecksVariables}
-use Rattle.unit_tables.specs.Scopes.{scope_in}
+use Rattle.function_rules.proofs.Parts.{joined}
+use Rattle.function_rules.specs.CheckedRoutine.{CheckedRoutine}
+use Rattle.function_rules.specs.CheckedVariables.{CheckedVariables}
+use Rattle.function_rules.specs.Routines.{ChecksRoutine}
+use Rattle.function_rules.specs.Variables.{ChecksVariables}
+use Rattle.function_rules.specs.Scopes.{scope_in}
 pub use Rattle.function_rules.proofs.FunctionLaws.{none_behind}
 use Rattle.method_rules.specs.declared.methods.CheckedMethod.{CheckedMethod}
 use Rattle.method_rules.specs.declared.prototypes.CheckedPrototype.{CheckedPrototype}

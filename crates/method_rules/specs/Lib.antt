@@ -1,3 +1,11 @@
 pub mod Methods
 pub mod Prototypes
 pub mod Private
+pub use Rattle.function_rules.specs.declared.functions.CheckedFunction
+pub use Rattle.function_rules.specs.declared.programs.CheckedProgram
+pub use Rattle.function_rules.specs.Functions
+pub use Rattle.function_rules.specs.Programs
+pub use Rattle.function_rules.specs.Bodies
+pub use Rattle.function_rules.specs.Scopes
+pub use Rattle.function_rules.specs.CheckedSection
+pub use Rattle.function_rules.specs.Sections

@@ -4,5 +4,7 @@
 mod methods;
 mod prototypes;
 
+pub use function_rules;
+pub use function_rules::{routine_rules, unit_tables, variable_rules};
 pub use methods::{CheckedMethod, check_method};
 pub use prototypes::{CheckedPrototype, check_prototype};

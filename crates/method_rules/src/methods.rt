@@ -1,22 +1,22 @@
 //! Methods of classes and function blocks.
 
 ghost use Rattle.std.specs.Prelude.{◌≡◌, IfOk};
-ghost use Rattle.routine_rules.specs.Parts.{Serves};
+ghost use Rattle.function_rules.specs.Parts.{Serves};
 ghost use Rattle.method_rules.specs.Methods.{ChecksMethod};
 ghost use Rattle.method_rules.specs.Private.Methods.{IsMethod, MethodIn};
 
+use function_rules::name_rules::local_name_fault;
 use function_rules::parts_of;
-use name_rules::local_name_fault;
+use function_rules::routine_rules::{CheckedRoutine, UnitParts, check_routine};
+use function_rules::told_locals::Declaring;
+use function_rules::unit_tables::UnitTables;
 use name_spaces::word_twice;
 use plc_text::{Code, Items, NoMemory};
-use routine_rules::{CheckedRoutine, UnitParts, check_routine};
 use section_rules::Home;
 use st_rules::{DeclaredVariable, earlier};
 use st_scope::Scope;
 use st_tree::{Method, Modifier, Name, Note};
 use std::alloc::Global;
-use told_locals::Declaring;
-use unit_tables::UnitTables;
 
 /// What is found out about a method.
 #[derive(Drop)]

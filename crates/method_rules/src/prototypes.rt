@@ -1,19 +1,19 @@
 //! Methods of interfaces, which have no body.
 
 ghost use Rattle.std.specs.Prelude.{◌≡◌, IfOk};
-ghost use Rattle.routine_rules.specs.Parts.{Serves};
+ghost use Rattle.function_rules.specs.Parts.{Serves};
 ghost use Rattle.method_rules.specs.Prototypes.{ChecksPrototype};
 ghost use Rattle.method_rules.specs.Private.Prototypes.{IsPrototype, PrototypeIn};
 
 use function_rules::parts_of;
+use function_rules::routine_rules::{CheckedVariables, UnitParts, check_variables};
+use function_rules::told_locals::Declaring;
+use function_rules::unit_tables::UnitTables;
 use plc_text::{Code, NoMemory};
-use routine_rules::{CheckedVariables, UnitParts, check_variables};
 use section_rules::Home;
 use st_scope::Scope;
 use st_tree::{Name, Note, Prototype};
 use std::alloc::Global;
-use told_locals::Declaring;
-use unit_tables::UnitTables;
 
 /// What is found out about a method of an interface.
 #[derive(Drop)]

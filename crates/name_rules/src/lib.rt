@@ -6,3 +6,4 @@ mod spaces;
 
 pub use configurations::{configuration_name_fault, hold_names};
 pub use spaces::{conversion_fault, local_name_fault, prototype_name_fault, space_fault};
+pub use st_places::st_scope;

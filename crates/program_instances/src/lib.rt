@@ -7,3 +7,4 @@ mod programs;
 
 pub use instances::{CheckedInstance, check_instance};
 pub use programs::UnitPrograms;
+pub use unit_tables;

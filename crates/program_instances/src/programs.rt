@@ -14,8 +14,8 @@ use region_rules::{InstancedProgram, program_values};
 use st_names::Names;
 use st_tree::{Decl, Name, ProgramDecl};
 use std::alloc::Global;
-use told_locals::Declaring;
 use unit_tables::UnitTables;
+use unit_tables::told_locals::Declaring;
 
 /// The programs of a unit in the order of the text, with the first place of each name.
 #[derive(Drop)]

@@ -8,3 +8,4 @@ mod phases;
 mod turn;
 
 pub use changed::{Changed, change};
+pub use reference_hooks;

@@ -6,3 +6,5 @@ mod ended;
 
 pub use cycles::cycle;
 pub use ended::Ended;
+pub use process_image;
+pub use reference_tasks;

@@ -1,3 +1,4 @@
 pub mod Hooks
 pub mod Private
 pub mod Tables
+pub use Rattle.reference_tasks.specs.Loaded

@@ -2,8 +2,8 @@
 
 use plc_series::Series;
 use plc_text::Text;
-use process_image::Located;
-use reference_tasks::Loaded;
+use reference_cycle::process_image::Located;
+use reference_cycle::reference_tasks::Loaded;
 use value_trees::Member;
 
 /// A program with its tables, its variables with addresses, and for each of its tasks the regions of the footprint.

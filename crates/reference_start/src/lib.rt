@@ -6,4 +6,5 @@ mod instances;
 mod started;
 
 pub use hooks::Stopped;
+pub use reference_tasks;
 pub use started::{Started, start};

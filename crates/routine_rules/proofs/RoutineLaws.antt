@@ -27,7 +27,7 @@ use Rattle.st_unit_rules.specs.Limits.{too_many_parameters, too_many_locals, all
 use Rattle.st_unit_rules.specs.VariableRules.{Home, sections_faults, result_faults}
 use Rattle.type_sizes.specs.declared.sizes.TypeSizes.{TypeSizes}
 use Rattle.type_sizes.specs.Sizes.{Measures}
-use Rattle.initial_rules.proofs.Parts.{joined}
+use Rattle.variable_rules.proofs.Parts.{joined}
 use Rattle.variable_rules.specs.declared.results.CheckedResult.{CheckedResult}
 use Rattle.variable_rules.specs.declared.sections.CheckedSections.{CheckedSections}
 use Rattle.variable_rules.specs.Results.{ChecksResult}

@@ -8,6 +8,10 @@ mod routines;
 mod variables;
 
 pub use bodies::{FoundBody, body_found};
+pub use depth_rules;
+pub use depth_rules::limit_rules;
 pub use parts::UnitParts;
 pub use routines::{CheckedRoutine, check_routine};
+pub use variable_rules;
+pub use variable_rules::name_rules;
 pub use variables::{CheckedVariables, check_variables};

@@ -9,7 +9,7 @@ ghost use Rattle.routine_rules.specs.Private.Routines.{IsRoutine};
 use crate::bodies::{FoundBody, body_found};
 use crate::parts::UnitParts;
 use crate::variables::{CheckedVariables, check_variables};
-use limit_rules::locals_fault;
+use depth_rules::limit_rules::locals_fault;
 use plc_text::{Code, Items, NoMemory};
 use section_rules::Home;
 use st_rules::{DeclaredVariable, earlier};

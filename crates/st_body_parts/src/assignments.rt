@@ -12,11 +12,11 @@ use crate::found::CheckedStatement;
 use crate::limits::{arguments_limit, selectors_limit};
 use plc_text::{Code, NoMemory};
 use st_check_expr::{check_arguments, check_place, check_whole};
-use st_expr_parts::{CheckedPlace, line_of, prepare};
-use st_operators::{asked_of, is_reference};
-use st_places::{
+use st_expr_parts::st_places::{
     note, note_of, placed, root_line, selectors_fault, standing_type, target_fault, whole_fault,
 };
+use st_expr_parts::{CheckedPlace, line_of, prepare};
+use st_operators::{asked_of, is_reference};
 use st_rules::{Asked, earlier, when};
 use st_scope::Scope;
 use st_tree::{Argument, Expr, Place, Stmt, Target};

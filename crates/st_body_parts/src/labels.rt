@@ -19,11 +19,11 @@ use crate::counting::{bare_fault, meant_type};
 use crate::found::{CheckedEnd, CheckedLabel, CheckedLabels};
 use crate::nodes::{no_label, with_label};
 use plc_text::{Code, NoMemory, Text};
-use st_calls::value_fault;
+use st_expr_parts::st_calls::value_fault;
+use st_expr_parts::st_places::note;
 use st_operators::{
     int_fault, int_type, literal_fault, literal_type, negative_fault, negative_type,
 };
-use st_places::note;
 use st_rules::{Asked, at, earlier, when};
 use st_scope::{Meant, Qualifier, Scope};
 use st_tree::{Label, LabelEnd, Literal, Note, Target, number_of};

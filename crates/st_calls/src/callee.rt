@@ -8,17 +8,17 @@ ghost use Rattle.st_rules.specs.Scope.{Scope as AScope, method_routine, prototyp
 ghost use Rattle.st_rules.specs.Places as places;
 ghost use Rattle.st_rules.specs.Calls as calls;
 ghost use Rattle.st_rules.specs.Expressions as expressions;
-ghost use Rattle.st_scope.specs.Meant.{meant};
+ghost use Rattle.st_places.specs.Meant.{meant};
 ghost use Rattle.st_places.specs.Standing.{standing, parted};
 ghost use Rattle.st_calls.specs.Callee.{called};
 ghost use Rattle.st_calls.specs.Private.Callee.{leads};
 
 use plc_text::Code;
+use st_places::st_scope::{Meant, Scope};
 use st_places::{
     Part, Standing, conversion_named, is_last, part_of, root_fault, root_standing, selected,
 };
 use st_rules::{DeclaredRoutine, MethodId, PrototypeId};
-use st_scope::{Meant, Scope};
 use st_tree::{Root, Selector};
 use st_types::{Elem, StType};
 

@@ -8,8 +8,8 @@ ghost use Rattle.st_rules.specs.Kinds as kinds;
 ghost use Rattle.st_rules.specs.Calls as calls;
 
 use plc_text::Code;
+use st_places::st_scope::Scope;
 use st_rules::{Asked, when};
-use st_scope::Scope;
 use st_types::{Elem, StType};
 
 /// Whether a value of the first kind may be taken in the second.

@@ -16,3 +16,5 @@ pub use faults::{call_type, callee_fault, result_fault};
 pub use heads::{Head, heads_of};
 pub use matching::{Matched, matches};
 pub use parameters::{block_parameters, callee_parameters, operand_of, routine_parameters};
+pub use st_places;
+pub use st_places::{st_operators, st_scope};

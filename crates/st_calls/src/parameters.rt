@@ -8,8 +8,8 @@ ghost use Rattle.st_calls.specs.Parameters.{parameters_of, operand_kind};
 
 use crate::callee::Callee;
 use plc_text::{NoMemory, Text};
+use st_places::st_scope::Scope;
 use st_rules::{Access, DeclaredVariable};
-use st_scope::Scope;
 use st_tree::{SectionSort, Target};
 use st_types::{Elem, StType};
 use std::alloc::Global;

@@ -9,10 +9,10 @@ ghost use Rattle.st_check_expr.specs.Broken.{Reports};
 use crate::broken::Broken;
 use crate::walk::check;
 use plc_text::NoMemory;
-use st_calls::value_fault;
+use st_expr_parts::st_calls::value_fault;
+use st_expr_parts::st_scope::Scope;
 use st_expr_parts::{Checked, line_of, operators_fault};
 use st_rules::{Asked, earlier};
-use st_scope::Scope;
 use st_tree::{Expr, Note};
 use std::alloc::Global;
 

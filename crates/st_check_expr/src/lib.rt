@@ -8,4 +8,6 @@ mod walk;
 
 pub use broken::Broken;
 pub use expression::{check_expr, check_whole};
+pub use st_expr_parts;
+pub use st_expr_parts::st_calls;
 pub use walk::{check, check_arguments, check_place};

@@ -7,8 +7,8 @@ use Rattle.st_rules.specs.Faults.{earlier}
 use Rattle.st_rules.specs.Scope.{Scope}
 use Rattle.st_rules.specs.Places as places
 use Rattle.st_rules.specs.Expressions.{part_note, standing_note}
-use Rattle.st_places.specs.declared.standing.Standing.{Standing}
-use Rattle.st_places.specs.Standing.{standing}
+use Rattle.st_calls.specs.StPlacesStanding.{Standing}
+use Rattle.st_calls.specs.Standing.{standing}
 use Rattle.st_expr_parts.specs.declared.along.Along.{Along}
 use Rattle.st_expr_parts.specs.declared.along.CheckedSelector.{CheckedSelector}
 use Rattle.st_expr_parts.specs.declared.lists.Indices.{Indices}

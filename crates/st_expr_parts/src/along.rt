@@ -4,14 +4,14 @@ ghost use Rattle.std.specs.Prelude.{◌≡◌, ◌<◌, ◌+◌, length, drop, I
 ghost use Rattle.st_tree.specs.Expression.{selectors_of};
 ghost use Rattle.st_rules.specs.Scope.{Scope as AScope};
 ghost use Rattle.st_rules.specs.Places as places;
-ghost use Rattle.st_places.specs.Standing.{standing};
+ghost use Rattle.st_calls.specs.Standing.{standing};
 ghost use Rattle.st_expr_parts.specs.Along.{Starts, Extends, IsField, IsIndex, IsTarget};
 
 use crate::lists::Indices;
 use plc_text::{Code, Items, NoMemory, Text};
-use st_places::{Standing, part_note, standing_note};
+use st_calls::st_places::{Standing, part_note, standing_note};
+use st_calls::st_scope::Scope;
 use st_rules::earlier;
-use st_scope::Scope;
 use st_tree::{Note, Selector};
 use std::alloc::Global;
 

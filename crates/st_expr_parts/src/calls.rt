@@ -12,13 +12,13 @@ use crate::lists::Arguments;
 use crate::slots::{Slot, slots_of};
 use crate::wholes::CheckedPlace;
 use plc_text::{Code, NoMemory};
+use st_calls::st_places::{root_line, selectors_fault};
+use st_calls::st_scope::Scope;
 use st_calls::{
     Callee, block_parameters, call_type, callee_at, callee_fault, heads_of, is_on_super, matches,
     operand_of, result_fault, routine_parameters,
 };
-use st_places::{root_line, selectors_fault};
 use st_rules::{DeclaredVariable, earlier};
-use st_scope::Scope;
 use st_tree::{Argument, Expr, Root, Selector};
 use st_types::{Elem, StType};
 use std::alloc::Global;

@@ -5,7 +5,7 @@ ghost use Rattle.st_tree.specs.declared.program.Target.TheVariants as target;
 ghost use Rattle.st_rules.specs.Expressions as expressions;
 
 use plc_text::{Code, NoMemory};
-use st_places::note;
+use st_calls::st_places::note;
 use st_tree::{Expr, Note, Target};
 use st_types::StType;
 use std::alloc::Global;

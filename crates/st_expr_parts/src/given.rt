@@ -16,13 +16,13 @@ use crate::slots::Slot;
 use crate::untyped::line_of;
 use crate::wholes::CheckedPlace;
 use plc_text::{Code, NoMemory, Text};
-use st_calls::{bound_fault, is_assignable, output_fault};
-use st_operators::asked_of;
-use st_places::{
+use st_calls::st_operators::asked_of;
+use st_calls::st_places::{
     is_fixed, note, note_of, placed, root_line, standing_type, target_fault, whole_fault,
 };
+use st_calls::st_scope::Scope;
+use st_calls::{bound_fault, is_assignable, output_fault};
 use st_rules::{Asked, earlier, when};
-use st_scope::Scope;
 use st_tree::{Argument, Expr, Note, Root, SectionSort, Selector, Target};
 use st_types::StType;
 use std::alloc::Global;

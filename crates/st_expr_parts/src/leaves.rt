@@ -11,11 +11,11 @@ ghost use Rattle.st_expr_parts.specs.Found.{Finds};
 
 use crate::found::{Checked, noted};
 use plc_text::{NoMemory, Text};
-use st_operators::{
+use st_calls::st_operators::{
     duration_fault, int_fault, int_type, literal_fault, literal_type, negative_fault,
     negative_type, null_type,
 };
-use st_places::note;
+use st_calls::st_places::note;
 use st_rules::Asked;
 use st_tree::{Expr, Literal, Note, Target};
 use st_types::{Boxed, Elem, StType};

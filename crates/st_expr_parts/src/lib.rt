@@ -32,6 +32,8 @@ pub use rows::{
     to_the_end,
 };
 pub use slots::{Slot, slot_at};
+pub use st_calls;
+pub use st_calls::{st_operators, st_places, st_scope};
 pub use untyped::{as_int, is_untyped, line_of};
 pub use values::enumerator;
 pub use wholes::{CheckedPlace, at_root, place_root_fault, reference, whole};

@@ -5,7 +5,7 @@ ghost use Rattle.st_expr_parts.specs.Lists.{NoIndex, NoArgument, AddsIndex, Adds
 
 use crate::found::Checked;
 use plc_text::{Code, Items, NoMemory};
-use st_operators::index_fault;
+use st_calls::st_operators::index_fault;
 use st_rules::earlier;
 use st_tree::{Argument, Expr, Note};
 use std::alloc::Global;

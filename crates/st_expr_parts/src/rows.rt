@@ -9,7 +9,7 @@ ghost use Rattle.st_expr_parts.specs.Rows.{Begins, Joins, Closes, EndsFront, Loo
 
 use crate::found::{Checked, again, noted};
 use plc_text::{Code, Items, NoMemory};
-use st_operators::{
+use st_calls::st_operators::{
     asked_of, is_arithmetic, is_number, number_asked, operands_fault, operation_type,
 };
 use st_rules::{Asked, earlier};

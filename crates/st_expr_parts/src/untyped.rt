@@ -6,7 +6,7 @@ ghost use Rattle.st_rules.specs.Kinds as kinds;
 ghost use Rattle.st_rules.specs.Expressions as expressions;
 
 use plc_text::Text;
-use st_operators::is_arithmetic;
+use st_calls::st_operators::is_arithmetic;
 use st_tree::{Expr, Tail};
 
 /// Whether it is an int, or an arithmetic operation over what is untyped.

@@ -5,15 +5,15 @@ ghost use Rattle.st_tree.specs.Expression as tree;
 ghost use Rattle.st_rules.specs.Faults.{least};
 ghost use Rattle.st_rules.specs.Scope.{type_qualifier};
 ghost use Rattle.st_rules.specs.Expressions as expressions;
-ghost use Rattle.st_scope.specs.Meant.{qualifier};
+ghost use Rattle.st_calls.specs.Meant.{qualifier};
 ghost use Rattle.st_expr_parts.specs.Found.{Finds};
 ghost use Rattle.st_expr_parts.specs.Private.Values as own;
 
 use crate::found::Checked;
 use plc_text::{Code, NoMemory, Text};
-use st_places::note;
+use st_calls::st_places::note;
+use st_calls::st_scope::{Qualifier, Scope};
 use st_rules::{at, when};
-use st_scope::{Qualifier, Scope};
 use st_tree::{Expr, Target};
 use st_types::StType;
 use std::alloc::Global;

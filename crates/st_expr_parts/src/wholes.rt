@@ -5,18 +5,18 @@ ghost use Rattle.st_tree.specs.Expression.{selectors_of};
 ghost use Rattle.st_rules.specs.Faults.{least};
 ghost use Rattle.st_rules.specs.Places as places;
 ghost use Rattle.st_rules.specs.Expressions as expressions;
-ghost use Rattle.st_places.specs.Standing.{standing};
+ghost use Rattle.st_calls.specs.Standing.{standing};
 ghost use Rattle.st_expr_parts.specs.Wholes.{root_part, Begins, Wholes, Refers};
 
 use crate::along::Along;
 use crate::found::{Checked, noted};
 use plc_text::{Code, NoMemory};
 use st_calls::called_root_fault;
-use st_places::{
+use st_calls::st_places::{
     Standing, note_of, placed, root_fault, root_line, standing_type, whole_fault, whole_target,
 };
+use st_calls::st_scope::Scope;
 use st_rules::{at, earlier, when};
-use st_scope::Scope;
 use st_tree::{Expr, Note, Place, Root, Selector};
 use st_types::StType;
 use std::alloc::Global;

@@ -5,7 +5,7 @@ ghost use Rattle.st_expr_parts.specs.Wraps.{Encloses, Denies, Negates};
 
 use crate::found::{Checked, noted};
 use plc_text::NoMemory;
-use st_operators::{negated_fault, negated_type, noted_fault, noted_type};
+use st_calls::st_operators::{negated_fault, negated_type, noted_fault, noted_type};
 use st_rules::earlier;
 use st_tree::Expr;
 use st_types::Boxed;

@@ -2,15 +2,15 @@
 
 ghost use Rattle.std.specs.Prelude.{◌≡◌, ℕ, false, nat_le, pos, neg_ℤ, ◌++◌, MatchOption};
 ghost use Rattle.st_types.specs.declared.elem.Elem.{Elem as Kind};
-ghost use Rattle.st_tree.specs.Number as number;
+ghost use Rattle.st_rules.specs.Number as number;
 ghost use Rattle.st_rules.specs.Faults as faults;
 ghost use Rattle.st_rules.specs.Literals as literals;
 
 use crate::kinds::{is_bool, is_number};
 use crate::types::is_number_type;
 use plc_text::Code;
+use st_rules::st_tree::{Literal, milliseconds, number_of};
 use st_rules::{Asked, at, when};
-use st_tree::{Literal, milliseconds, number_of};
 use st_types::{Elem, StType, highest, lowest};
 
 /// Whether the number is a value of the kind.

@@ -20,4 +20,7 @@ pub use parts::part_of;
 pub use places::{placed, root_standing, selected};
 pub use roots::{is_last, root_fault, root_line, selectors_fault, whole_fault};
 pub use selectors::selector_fault;
+pub use st_operators;
+pub use st_scope;
+pub use st_scope::iface_tables;
 pub use standing::{Part, Standing, standing_type};

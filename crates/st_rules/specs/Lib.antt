@@ -18,3 +18,4 @@ pub mod Calls
 pub mod Expressions
 pub mod Statements
 pub mod Rows
+pub use Rattle.st_tree.specs.Number

@@ -29,4 +29,5 @@ pub use rows::row_laws;
 pub use signature::{
     Parameter, ResultType, Signature, Signatures, differs_from_hook, is_hook, same_signature,
 };
+pub use st_tree;
 pub use widening::widening_laws;

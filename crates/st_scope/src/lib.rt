@@ -12,5 +12,6 @@ mod tables;
 mod telling;
 mod unit_tables;
 
+pub use iface_tables;
 pub use scope::{Meant, Qualifier, Scope};
 pub use tables::NameTables;

@@ -10,3 +10,4 @@ pub mod DeclarationRules
 pub mod UnitRefusal
 pub mod Checked
 pub mod RefusalLaws
+pub use Rattle.declared_names.specs.Variables

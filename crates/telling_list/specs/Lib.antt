@@ -1,3 +1,4 @@
 pub mod Jobs
 pub mod JobLaws
 pub mod Listed
+pub use Rattle.told_places.specs.PlaceLaws

@@ -4,13 +4,13 @@ ghost use Rattle.std.specs.Prelude.{◌≡◌, ◌&&◌};
 ghost use Rattle.st_tree.specs.Expression.{expression_of, argument_of, arguments_of, place_of, tails_of};
 ghost use Rattle.st_rules.specs.Expressions as expressions;
 ghost use Rattle.st_rules.specs.Scope as scope;
-ghost use Rattle.st_scope.specs.Meant.{qualifier};
+ghost use Rattle.st_places.specs.Meant.{qualifier};
 ghost use Rattle.declared_names.specs.Constants as constants;
 ghost use Rattle.told_expressions.specs.Private.Parts as own;
 
 use plc_text::Text;
+use st_places::st_scope::{Qualifier, Scope};
 use st_places::whole_target;
-use st_scope::{Qualifier, Scope};
 use st_tree::{Argument, Expr, Place, Tail, Target};
 
 /// Whether a name means a constant whose value is told, or an enumerator.

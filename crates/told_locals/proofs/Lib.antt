@@ -1,1 +1,3 @@
 pub mod RoundLaws
+pub use Rattle.told_scopes.proofs.ScopeLaws
+pub use Rattle.declared_variables.proofs.UntoldLaws

@@ -5,7 +5,7 @@ use Rattle.st_rules.specs.declared.names.DeclaredVariable.{DeclaredVariable}
 use Rattle.st_rules.specs.Classes.{classes_in}
 use Rattle.st_rules.specs.Interfaces.{interfaces_in}
 use Rattle.st_rules.specs.Scope.{Scope}
-use Rattle.st_scope.specs.Tables.{Knows}
+use Rattle.declared_variables.specs.Tables.{Knows}
 use Rattle.told_laws.specs.ToldLaws.{TellsKinds}
 use Rattle.declared_names.specs.Variables.{members_declared, routine_locals}
 use Rattle.declared_names.specs.UnitNames.{locals_of, program_locals}

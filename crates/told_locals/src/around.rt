@@ -7,12 +7,12 @@ ghost use Rattle.told_locals.specs.Around.{IsAround, declared_in};
 ghost use Rattle.told_locals.specs.Private.Rounds.{scope_with};
 
 use class_tables::ClassTables;
+use declared_variables::iface_tables::IfaceTables;
+use declared_variables::st_scope::{NameTables, Scope};
 use declared_variables::{declared_locals, declared_program};
-use iface_tables::IfaceTables;
 use plc_series::Series;
 use plc_text::NoMemory;
 use st_rules::DeclaredVariable;
-use st_scope::{NameTables, Scope};
 use st_tree::{Name, Section, TypeSpec};
 use std::alloc::Global;
 

@@ -6,4 +6,5 @@ mod rounds;
 mod same;
 
 pub use around::{Around, Declaring};
+pub use declared_variables;
 pub use rounds::told_locals;

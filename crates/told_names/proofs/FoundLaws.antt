@@ -19,8 +19,8 @@ use Rattle.declaration_list.specs.Written.{written_in}
 use Rattle.constant_values.specs.ValueLaws.{ValuesHaveTypes}
 use Rattle.told_laws.specs.TellingLaws.{Sound}
 use Rattle.told_scopes.proofs.ScopeLaws.{scope-laws}
-use Rattle.told_places.specs.PlaceLaws.{entry_can_be_told}
-use Rattle.telling_list.specs.Jobs.{Job, of_entry, of_interface, of_class, of_global, of_member, can_be_told, Tells}
+use Rattle.telling_groups.specs.PlaceLaws.{entry_can_be_told}
+use Rattle.telling_groups.specs.Jobs.{Job, of_entry, of_interface, of_class, of_global, of_member, can_be_told, Tells}
 use Rattle.telling_groups.specs.Groups.{Group, one_entry, one_interface, one_class, globals_of, members_of, each_name, jobs_of_group}
 use Rattle.telling_groups.specs.Arranged.{Among}
 use Rattle.written_types.specs.Types.{TellsConstant}

@@ -6,8 +6,8 @@ use Rattle.st_tree.specs.declared.unit.Decl.{Decl}
 use Rattle.st_rules.specs.declared.names.DeclaredNames.{DeclaredNames}
 use Rattle.st_scope.specs.Tables.{Told}
 use Rattle.told_laws.specs.ToldLaws.{Every}
-use Rattle.telling_list.specs.Jobs.{Job, jobs_in, is_told_of, can_be_told, IsDone}
-use Rattle.telling_list.proofs.JobLaws.{job-laws}
+use Rattle.telling_groups.specs.Jobs.{Job, jobs_in, is_told_of, can_be_told, IsDone}
+use Rattle.telling_groups.proofs.JobLaws.{job-laws}
 use Rattle.telling_groups.specs.Groups.{Group, group_of, jobs_of_group}
 use Rattle.telling_groups.specs.declared.groups.Group.{Group as Held}
 use Rattle.telling_groups.specs.Arranged.{Among, Arranges}

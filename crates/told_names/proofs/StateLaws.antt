@@ -20,8 +20,8 @@ use Rattle.told_laws.specs.ToldLaws.{Each, Every, NoLess, MeansNoLess, AlikeTarg
 use Rattle.told_laws.specs.TellingLaws.{Sound}
 use Rattle.told_laws.proofs.Telling.{telling_laws}
 use Rattle.declared_names.specs.UnitNames.{names_told}
-use Rattle.telling_list.specs.Jobs.{Job, of_entry, of_interface, of_class, of_global, of_member, jobs_in, is_told_of, with_job, Tells}
-use Rattle.telling_list.proofs.JobLaws.{job-laws}
+use Rattle.telling_groups.specs.Jobs.{Job, of_entry, of_interface, of_class, of_global, of_member, jobs_in, is_told_of, with_job, Tells}
+use Rattle.telling_groups.proofs.JobLaws.{job-laws}
 use Rattle.telling_groups.specs.Groups.{Group, jobs_of_group}
 use Rattle.telling_groups.specs.Arranged.{Among}
 use Rattle.told_names.specs.Private.State.{Untellable, Tellable, Finds, with_jobs, Retold, IsState, IsOfUnit, GroupTold, Stays, Visits, Keeps}

@@ -10,7 +10,7 @@ use Rattle.st_rules.specs.Telling.{with_global, with_member}
 use Rattle.st_rules.proofs.ListLaws.{drop-at, drop-end}
 use Rattle.st_scope.specs.Tables.{Told}
 use Rattle.declaration_list.specs.Written.{written_in}
-use Rattle.telling_list.specs.Jobs.{of_global, of_member}
+use Rattle.telling_groups.specs.Jobs.{of_global, of_member}
 use Rattle.telling_groups.specs.Groups.{each_name}
 use Rattle.told_names.specs.Private.State.{with_jobs, with_globals, with_members, Retold}
 

@@ -12,8 +12,8 @@ ghost use Rattle.told_names.specs.Private.State.{IsState};
 
 use class_tables::ClassTables;
 use declaration_list::WrittenName;
-use iface_tables::IfaceTables;
 use plc_text::NoMemory;
+use st_scope::iface_tables::IfaceTables;
 use st_scope::{NameTables, Scope};
 use st_tree::TypeBody;
 use st_types::StType;

@@ -5,4 +5,8 @@ mod found;
 mod tell;
 mod told;
 
+pub use st_scope;
+pub use st_scope::iface_tables;
 pub use told::tell_all;
+pub use unit_untold;
+pub use written_types;

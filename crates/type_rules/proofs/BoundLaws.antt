@@ -14,9 +14,9 @@ use Rattle.declared_names.specs.Constants.{Outcome, comes_to, divides_by_zero, c
 use Rattle.declared_names.specs.WrittenTypes.{is_number_type, bound_value, bound_faults, lies_above, dimension_faults}
 use Rattle.st_unit_rules.specs.Initials.{outcome_target, with_note, typed_constant}
 use Rattle.st_unit_rules.specs.Checked.{TypedBounds}
-use Rattle.constant_values.specs.Outcome.{outcome}
-use Rattle.constant_faults.specs.declared.faults.Constant.{Constant}
-use Rattle.constant_faults.specs.Faults.{IsConstant}
+use Rattle.written_types.specs.Outcome.{outcome}
+use Rattle.initial_rules.specs.Constant.{Constant}
+use Rattle.initial_rules.specs.Faults.{IsConstant}
 use Rattle.initial_rules.specs.Worth.{noted}
 use Rattle.initial_rules.proofs.Parts.{joined}
 use Rattle.type_rules.specs.declared.bounds.CheckedBound.{CheckedBound}

@@ -3,3 +3,4 @@ pub mod ElementLaws
 pub mod DimensionLaws
 pub mod ArrayLaws
 pub mod TypeLaws
+pub use Rattle.initial_rules.proofs.Parts

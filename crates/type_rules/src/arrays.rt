@@ -6,9 +6,9 @@ ghost use Rattle.type_rules.specs.Private.Arrays.{IsAround, AddsArray, ArraysFin
 use crate::dimensions::{Dimensions, Told, check_dimensions};
 use crate::elements::noted;
 use plc_text::{Items, NoMemory};
-use st_scope::Scope;
 use st_tree::{ArraySpec, Bounds, Note};
 use std::alloc::Global;
+use written_types::st_scope::Scope;
 
 /// The arrays of a type so far, the last one first.
 #[derive(Drop)]

@@ -3,21 +3,21 @@
 ghost use Rattle.std.specs.Prelude.{◌≡◌, IfOk};
 ghost use Rattle.st_tree.specs.Expression.{expression_of};
 ghost use Rattle.declared_names.specs.WrittenTypes as written;
-ghost use Rattle.constant_values.specs.Outcome.{outcome};
+ghost use Rattle.written_types.specs.Outcome.{outcome};
 ghost use Rattle.type_rules.specs.Private.Bounds.{bound_found, lies_above, IsBound, BoundChecks, IsDimension, DimensionChecks};
 
-use constant_faults::{Constant, check_constant};
-use constant_values::Outcome;
+use initial_rules::constant_faults::{Constant, check_constant};
 use initial_rules::with_value;
 use plc_text::{Code, NoMemory};
-use st_expr_parts::line_of;
 use st_operators::{index_fault, is_number};
 use st_rules::{Asked, earlier, when};
-use st_scope::Scope;
 use st_tree::{Bounds, Expr, Note};
 use st_types::StType;
 use std::alloc::Global;
-use told_expressions::names_are_told;
+use written_types::constant_values::Outcome;
+use written_types::st_expr_parts::line_of;
+use written_types::st_scope::Scope;
+use written_types::told_expressions::names_are_told;
 
 /// A bound of an array, checked.
 #[derive(Drop)]

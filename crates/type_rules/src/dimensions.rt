@@ -7,10 +7,10 @@ ghost use Rattle.type_rules.specs.Private.Dimensions.{IsOuter, IsUntold, Surroun
 use crate::bounds::{CheckedDimension, check_dimension};
 use plc_text::{Code, NoMemory};
 use st_rules::earlier;
-use st_scope::Scope;
 use st_tree::{Bounds, Note};
 use st_types::{Boxed, StType};
 use std::alloc::Global;
+use written_types::st_scope::Scope;
 
 /// What is told of a type from some dimension on.
 #[derive(Drop)]

@@ -8,12 +8,12 @@ ghost use Rattle.declared_names.specs.WrittenTypes as written;
 ghost use Rattle.type_rules.specs.Private.Elements.{ElementChecks, IsElementary, IsNamed, IsReference, is_no_instance};
 
 use plc_text::{Code, NoMemory, Text};
-use st_places::note;
 use st_rules::{earlier, when};
-use st_scope::Scope;
 use st_tree::{Note, SimpleSpec, Target};
 use st_types::{Elem, StType};
 use std::alloc::Global;
+use written_types::st_places::note;
+use written_types::st_scope::Scope;
 
 /// What the innermost array is of, checked.
 #[derive(Drop)]

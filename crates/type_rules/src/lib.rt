@@ -7,4 +7,5 @@ mod dimensions;
 mod elements;
 mod types;
 
+pub use initial_rules;
 pub use types::{CheckedType, check_type};

@@ -7,10 +7,10 @@ use crate::arrays::{Arrays, check_arrays, turned_arrays};
 use crate::dimensions::Told;
 use crate::elements::{CheckedElement, check_element};
 use plc_text::{Code, NoMemory};
-use st_scope::Scope;
 use st_tree::{Note, TypeSpec};
 use st_types::StType;
 use std::alloc::Global;
+use written_types::st_scope::Scope;
 
 /// What is found out about a type as it is written.
 #[derive(Drop)]

@@ -7,12 +7,12 @@ use Rattle.st_tree.specs.declared.unit.Unit.{Unit as ProgramText}
 use Rattle.st_rules.specs.Classes.{classes_in}
 use Rattle.member_names.specs.Known.{Knows}
 use Rattle.numbered_signatures.specs.Signatures.{Tells}
-use Rattle.program_instances.specs.Programs.{HasPrograms}
+use Rattle.configuration_rules.specs.Programs.{HasPrograms}
 use Rattle.st_unit_rules.specs.Checked.{IsChecked}
 use Rattle.st_unit_rules.specs.DeclarationRules.{signatures}
 use Rattle.st_unit_rules.specs.RefusalLaws.{IsGood}
 use Rattle.st_unit_rules.specs.UnitRefusal.{UnitRefusal}
-use Rattle.unit_tables.specs.Scopes.{scope_in}
+use Rattle.global_rules.specs.Scopes.{scope_in}
 use Rattle.unit_check.specs.declared.side.CheckSide.{CheckSide}
 use Rattle.unit_check.specs.Checking.{OnRefused}
 use Rattle.unit_check.specs.Private.Side.{ServesUnit}

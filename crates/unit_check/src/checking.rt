@@ -18,13 +18,13 @@ use crate::refused::denied_by;
 use crate::side::CheckSide;
 use base_limits::InterfaceHeights;
 use checked_declarations::{Bad, ClassSide};
+use configuration_rules::program_instances::UnitPrograms;
+use global_rules::unit_tables::UnitTables;
 use member_names::MemberNames;
 use plc_text::Denied;
-use program_instances::UnitPrograms;
 use st_tree::{Decl, Program, Unit};
 use std::alloc::Global;
 use unit_signatures::unit_signatures;
-use unit_tables::UnitTables;
 
 /// Checks all declarations of a unit.
 fn pass_unit(alloc: Global, side: &CheckSide<'_, '_>, decls: &[Decl<u32>]) -> Result<Progress, Bad>

@@ -2,9 +2,9 @@
 
 use base_limits::InterfaceHeights;
 use checked_declarations::ClassSide;
-use program_instances::UnitPrograms;
+use configuration_rules::program_instances::UnitPrograms;
+use global_rules::unit_tables::UnitTables;
 use st_scope::Scope;
-use unit_tables::UnitTables;
 
 /// What a unit is checked by: its tables, the scope of the unit, its programs, and what classes and interfaces need.
 #[derive(Clone, Copy)]

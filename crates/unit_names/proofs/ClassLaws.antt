@@ -16,8 +16,8 @@ use Rattle.st_rules.specs.Scope.{Scope}
 use Rattle.st_rules.proofs.ListLaws.{drop-at, drop-end, take-at}
 use Rattle.declared_names.specs.Variables.{Written, sections_written, sections_in, is_kept_written, is_body_written, members_declared}
 use Rattle.declared_names.specs.UnitNames.{names_from, no_names, names_told, class_scope, class_declared, method_declared, written_by, written_above}
-use Rattle.untold_names.specs.Untold.{untold_members, untold_class, untold_classes, untold_names, declared_by, declared_above}
-use Rattle.untold_names.proofs.UntoldLaws.{untold_laws}
+use Rattle.told_locals.specs.Untold.{untold_members, untold_class, untold_classes, untold_names, declared_by, declared_above}
+use Rattle.told_locals.proofs.UntoldLaws.{untold_laws}
 use Rattle.unit_names.specs.declared.known.Known.{Known}
 use Rattle.unit_names.specs.Private.Known.{decls_of, names_of, classes_from, IsClassAt, AddsClass}
 

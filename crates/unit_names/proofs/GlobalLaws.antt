@@ -16,8 +16,8 @@ use Rattle.st_rules.specs.Scope.{Scope}
 use Rattle.declared_names.specs.Variables.{Written, section_written, sections_written, constant_target, constant_of, declared_with}
 use Rattle.declared_names.specs.Declarations.{resource_globals, configuration_globals}
 use Rattle.declared_names.specs.UnitNames.{unit_scope, variables_declared, region_count, routine_declared, globals_from}
-use Rattle.untold_names.specs.Untold.{number_behind, regions_of}
-use Rattle.declared_variables.specs.Globals.{globals_in, AddsGlobals}
+use Rattle.told_locals.specs.Untold.{number_behind, regions_of}
+use Rattle.told_locals.specs.Globals.{globals_in, AddsGlobals}
 
 -- ---- sections
 

@@ -22,7 +22,7 @@ use Rattle.st_rules.proofs.ListLaws.{drop-at, drop-end}
 use Rattle.declared_names.specs.Declarations.{entries_in}
 use Rattle.declared_names.specs.UnitNames.{types_declared, parts_declared, method_declared, interface_declared, globals_from, names_from}
 use Rattle.constant_values.specs.ValueLaws.{ValuesHaveTypes}
-use Rattle.told_scopes.proofs.ScopeLaws.{scope-laws}
+use Rattle.told_locals.proofs.ScopeLaws.{scope-laws}
 use Rattle.unit_names.specs.declared.known.Known.{Known}
 use Rattle.unit_names.specs.Private.Known.{scope_in, IsKnown, decls_of, names_of, classes_from}
 

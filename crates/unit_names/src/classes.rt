@@ -8,12 +8,12 @@ ghost use Rattle.unit_names.specs.Private.Known.{AddsClass, IsClassAt, IsKnown, 
 use crate::known::{Known, scope_of};
 use crate::routines::declared_methods;
 use crate::types::one_more;
-use declared_variables::declared_members;
 use plc_series::Series;
 use plc_text::NoMemory;
 use st_rules::{DeclaredClass, DeclaredNames};
 use st_tree::{ClassDecl, Decl};
 use std::alloc::Global;
+use told_locals::declared_variables::declared_members;
 
 /// The class of the number, with nothing told of it.
 fn class_at(untold: &DeclaredNames, number: u32) -> Option<&DeclaredClass>

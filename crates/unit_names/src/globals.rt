@@ -6,18 +6,18 @@ ghost use Rattle.st_rules.specs.declared.names.DeclaredGlobal.TheVariants as glo
 ghost use Rattle.declared_names.specs.Declarations as declarations;
 ghost use Rattle.declared_names.specs.Variables.{section_written, sections_written};
 ghost use Rattle.declared_names.specs.UnitNames as unit_names;
-ghost use Rattle.declared_variables.specs.Globals.{AddsGlobals};
+ghost use Rattle.told_locals.specs.Globals.{AddsGlobals};
 ghost use Rattle.unit_names.specs.Private.Known.{IsKnown, decls_of, names_of, scope_in};
 
 use crate::known::{Known, around, scope_of};
 use crate::routines::declared_routine;
 use crate::types::one_more;
-use declared_variables::{add_globals, add_section_globals};
 use plc_series::Series;
 use plc_text::NoMemory;
 use st_rules::DeclaredGlobal;
 use st_tree::{Configuration, Decl, FunctionDecl, Resource, Section};
 use std::alloc::Global;
+use told_locals::declared_variables::{add_globals, add_section_globals};
 
 fn resource_globals(resource: &Option<Resource<u32>>) -> &[Section<u32>]
     ensures { result.now ≡ declarations.resource_globals resource.now }

@@ -5,11 +5,11 @@ ghost use Rattle.told_locals.specs.Around.{IsAround, scope_around};
 ghost use Rattle.unit_names.specs.Private.Known.{IsKnown, scope_in};
 
 use class_tables::ClassTables;
-use iface_tables::IfaceTables;
 use plc_text::NoMemory;
-use st_scope::{NameTables, Scope};
 use std::alloc::Global;
 use told_locals::Around;
+use told_names::iface_tables::IfaceTables;
+use told_names::st_scope::{NameTables, Scope};
 
 /// The tables of a unit.
 #[derive(Clone, Copy)]

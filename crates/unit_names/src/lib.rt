@@ -10,3 +10,5 @@ mod routines;
 mod types;
 
 pub use names::unit_names;
+pub use told_locals;
+pub use told_names::{iface_tables, st_scope, written_types};

@@ -11,13 +11,13 @@ use crate::parts::declared_parts;
 use crate::routines::declared_interfaces;
 use crate::types::declared_types;
 use class_tables::ClassTables;
-use iface_tables::IfaceTables;
 use plc_text::NoMemory;
 use st_rules::DeclaredNames;
 use st_tree::{Decl, Unit};
 use std::alloc::Global;
+use told_names::iface_tables::IfaceTables;
 use told_names::tell_all;
-use unit_untold::unit_untold;
+use told_names::unit_untold::unit_untold;
 
 /// What is told of the names of a unit from what its tables tell.
 fn names_from(

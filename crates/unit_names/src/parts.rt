@@ -9,11 +9,11 @@ ghost use Rattle.unit_names.specs.Private.Known.{IsKnown, decls_of, field_of, gr
 use crate::known::{Known, scope_of};
 use plc_text::{Items, NoMemory, Text};
 use st_rules::{DeclaredField, TypeParts};
-use st_scope::Scope;
 use st_tree::{Decl, FieldGroup, Name, TypeBody, TypeDecl};
 use st_types::StType;
 use std::alloc::Global;
-use written_types::type_written;
+use told_names::st_scope::Scope;
+use told_names::written_types::type_written;
 
 fn texts(alloc: Global, names: &[Name]) -> Result<Items<Text>, NoMemory>
     ensures { IfOk result (λ list. list ≡ map (λ n. n.text) names.now) }

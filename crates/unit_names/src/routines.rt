@@ -13,12 +13,12 @@ use crate::known::{Known, around};
 use plc_series::Series;
 use plc_text::{Items, NoMemory, Text};
 use st_rules::{DeclaredRoutine, DeclaredVariable, ResultType, is_abstract, method_access};
-use st_scope::Scope;
 use st_tree::{Decl, Member, Method, Modifier, Name, Prototype, Section, SectionSort, TypeSpec};
 use st_types::StType;
 use std::alloc::Global;
 use told_locals::{Around, Declaring, told_locals};
-use written_types::type_written;
+use told_names::st_scope::Scope;
+use told_names::written_types::type_written;
 
 fn copied(alloc: Global, kind: &Option<StType>) -> Result<Option<StType>, NoMemory>
     ensures { IfOk result (λ t. t ≡ kind.now) }

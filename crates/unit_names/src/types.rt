@@ -12,7 +12,7 @@ use st_rules::DeclaredType;
 use st_tree::{Decl, Name, TypeBody, TypeDecl};
 use st_types::StType;
 use std::alloc::Global;
-use written_types::type_written;
+use told_names::written_types::type_written;
 
 pub fn one_more(number: u32) -> Result<u32, NoMemory>
     ensures { IfOk result (λ n. n ≡ suc number) }

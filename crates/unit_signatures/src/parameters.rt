@@ -15,8 +15,8 @@ use st_scope::Scope;
 use st_tree::{Init, Item, Name, Section, SectionSort};
 use st_types::StType;
 use std::alloc::Global;
+use unit_tables::written_types::type_written;
 use worth_numbers::WorthNumbers;
-use written_types::type_written;
 
 /// The most steps of containment that a type may take.
 const MOST: u32 = 66;

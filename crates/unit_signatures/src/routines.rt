@@ -13,9 +13,9 @@ use st_rules::{ResultType, Signature};
 use st_scope::Scope;
 use st_tree::{Name, Section, TypeSpec};
 use std::alloc::Global;
-use told_locals::Declaring;
+use unit_tables::told_locals::Declaring;
+use unit_tables::written_types::type_written;
 use worth_numbers::WorthNumbers;
-use written_types::type_written;
 
 fn result_in(
     alloc: Global,

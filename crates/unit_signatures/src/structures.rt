@@ -12,7 +12,7 @@ use st_scope::Scope;
 use st_tree::{Decl, FieldGroup, TypeBody, TypeDecl};
 use std::alloc::Global;
 use structure_worths::DeclaredStructure;
-use written_types::type_written;
+use unit_tables::written_types::type_written;
 
 fn group<'a>(
     alloc: Global,

@@ -6,3 +6,4 @@ mod tables;
 
 pub use classes::list_classes;
 pub use tables::UnitTables;
+pub use unit_names::{told_locals, written_types};

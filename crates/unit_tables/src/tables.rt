@@ -5,24 +5,24 @@ ghost use Rattle.st_rules.specs.Classes.{classes_in};
 ghost use Rattle.st_rules.specs.Scope as rules;
 ghost use Rattle.declared_names.specs.UnitNames.{unit_names};
 ghost use Rattle.section_rules.specs.Variables.{classes_of};
-ghost use Rattle.st_scope.specs.Tables.{Knows};
-ghost use Rattle.told_locals.specs.Around.{IsAround, all_told, scope_around};
+ghost use Rattle.unit_names.specs.Tables.{Knows};
+ghost use Rattle.unit_names.specs.Around.{IsAround, all_told, scope_around};
 ghost use Rattle.type_sizes.specs.Sizes.{Measures};
 ghost use Rattle.unit_tables.specs.Scopes.{scope_in};
 
 use crate::classes::list_classes;
 use class_tables::ClassTables;
 use declared_graph::DeclaredGraph;
-use iface_tables::IfaceTables;
 use plc_series::Series;
 use plc_text::NoMemory;
 use st_rules::DeclaredVariable;
-use st_scope::{NameTables, Scope};
 use st_tree::{ClassDecl, Unit};
 use std::alloc::Global;
 use std::marker::Model;
-use told_locals::{Around, Declaring, told_locals};
 use type_sizes::TypeSizes;
+use unit_names::iface_tables::IfaceTables;
+use unit_names::st_scope::{NameTables, Scope};
+use unit_names::told_locals::{Around, Declaring, told_locals};
 use unit_names::unit_names;
 
 /// The tables of a unit, which contracts see as the unit.

@@ -12,7 +12,7 @@ ghost use Rattle.unit_untold.specs.Private.Counts.{AreSums};
 use crate::counts::{Counts, all_own};
 use crate::sums::{counts_above, totals_of};
 use class_chains::ClassChains;
-use class_tables::ClassTables;
+use class_chains::class_tables::ClassTables;
 use plc_series::Series;
 use plc_text::NoMemory;
 use st_rules::{DeclaredClass, DeclaredNames};

@@ -20,7 +20,7 @@ use Rattle.declared_names.specs.WrittenTypes.{type_written, type_faults}
 use Rattle.st_unit_rules.specs.Checked.{IfThere, TypedInitial, TypedItem, TypedSpec}
 use Rattle.st_unit_rules.specs.Initials.{typed_initial}
 use Rattle.st_unit_rules.specs.VariableRules.{Home, may_hold_instances, may_have_address, instance_out_of_place, instance_of_abstract_class, bad_constant, address_faults, external_faults, initial_if_given, item_faults, result_faults}
-use Rattle.initial_rules.proofs.Parts.{joined}
+use Rattle.type_rules.proofs.Parts.{joined}
 use Rattle.type_rules.specs.declared.types.CheckedType.{CheckedType}
 use Rattle.type_rules.specs.Types.{ChecksType}
 use Rattle.variable_rules.specs.declared.given.CheckedGiven.{CheckedGiven}

@@ -11,7 +11,7 @@ use Rattle.st_rules.specs.Scope.{Scope}
 use Rattle.st_unit_rules.specs.Checked.{Each, TypedItem, TypedSection}
 use Rattle.st_unit_rules.specs.VariableRules.{Home, item_faults, heading_faults, section_faults, sections_faults}
 use Rattle.section_rules.specs.Headings as headings
-use Rattle.initial_rules.proofs.Parts.{joined}
+use Rattle.type_rules.proofs.Parts.{joined}
 use Rattle.variable_rules.specs.declared.sections.CheckedItems.{CheckedItems}
 use Rattle.variable_rules.specs.declared.sections.CheckedSection.{CheckedSection}
 use Rattle.variable_rules.specs.declared.sections.CheckedSections.{CheckedSections}

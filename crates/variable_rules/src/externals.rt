@@ -7,9 +7,9 @@ ghost use Rattle.st_rules.specs.Types as types;
 ghost use Rattle.st_unit_rules.specs.VariableRules as rules;
 ghost use Rattle.variable_rules.specs.Private.Externals.{global_in, name_faults, external_faults};
 
+use name_rules::st_scope::NameTables;
 use plc_text::{Code, Text};
 use st_rules::{DeclaredGlobal, DeclaredVariable, earlier, when};
-use st_scope::NameTables;
 use st_tree::{Name, SectionSort};
 use st_types::StType;
 

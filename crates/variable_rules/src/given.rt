@@ -4,12 +4,12 @@ ghost use Rattle.std.specs.Prelude.{IfOk, option_map};
 ghost use Rattle.st_tree.specs.Initial.{initial_of};
 ghost use Rattle.variable_rules.specs.Given.{ChecksGiven};
 
-use initial_rules::{CheckedInitial, check_initial};
+use name_rules::st_scope::Scope;
 use plc_text::{Code, NoMemory};
-use st_scope::Scope;
 use st_tree::{Init, Note};
 use st_types::StType;
 use std::alloc::Global;
+use type_rules::initial_rules::{CheckedInitial, check_initial};
 
 /// What is found out about an initial value that may be given.
 #[derive(Drop)]

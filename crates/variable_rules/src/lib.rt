@@ -12,5 +12,7 @@ mod sections;
 pub use copies::copied_names;
 pub use given::{CheckedGiven, check_given};
 pub use items::{CheckedItem, check_item};
+pub use name_rules;
 pub use results::{CheckedResult, check_result};
 pub use sections::{CheckedSection, CheckedSections, check_section, check_sections};
+pub use type_rules;

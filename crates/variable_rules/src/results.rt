@@ -4,10 +4,10 @@ ghost use Rattle.std.specs.Prelude.{◌≡◌, IfOk};
 ghost use Rattle.variable_rules.specs.Results.{ChecksResult};
 ghost use Rattle.variable_rules.specs.Private.Results.{IsResult};
 
+use name_rules::st_scope::Scope;
 use plc_text::{Code, NoMemory};
 use section_rules::instance_out_of_place;
 use st_rules::earlier;
-use st_scope::Scope;
 use st_tree::{Note, TypeSpec};
 use std::alloc::Global;
 use type_rules::{CheckedType, check_type};

@@ -7,10 +7,10 @@ ghost use Rattle.variable_rules.specs.Sections.{ChecksSection, ChecksSections};
 ghost use Rattle.variable_rules.specs.Private.Sections.{NoItems, AddsItem, ItemsFind, IsSection, NoSections, AddsSection};
 
 use crate::items::{CheckedItem, check_item};
+use name_rules::st_scope::{NameTables, Scope};
 use plc_text::{Code, Items, NoMemory};
 use section_rules::{Home, heading_fault};
 use st_rules::earlier;
-use st_scope::{NameTables, Scope};
 use st_tree::{ClassDecl, Item, Modifier, Note, Section};
 use std::alloc::Global;
 

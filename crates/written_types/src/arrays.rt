@@ -7,8 +7,8 @@ ghost use Rattle.constant_values.specs.ValueLaws.{ValuesHaveTypes};
 ghost use Rattle.written_types.specs.Private.Values as own;
 
 use crate::values::bound_value;
+use constant_rules::st_scope::Scope;
 use plc_text::NoMemory;
-use st_scope::Scope;
 use st_tree::{ArraySpec, Bounds};
 use st_types::{Boxed, StType};
 use std::alloc::Global;

@@ -12,10 +12,10 @@ ghost use Rattle.written_types.specs.Private.Values as own;
 
 use crate::types::type_written;
 use crate::values::told_value;
+use constant_rules::st_scope::Scope;
 use declaration_list::WrittenName;
 use plc_text::NoMemory;
 use st_rules::Asked;
-use st_scope::Scope;
 use st_tree::{Expr, Init};
 use st_types::StType;
 use std::alloc::Global;

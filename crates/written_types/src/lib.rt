@@ -6,6 +6,10 @@ mod constants;
 mod types;
 mod values;
 
+pub use constant_rules::{iface_tables, st_places, st_scope};
+pub use constant_values;
 pub use constants::constant_of;
+pub use st_check_expr::st_expr_parts;
+pub use told_expressions;
 pub use types::type_written;
 pub use values::{bound_value, told_value};

@@ -6,8 +6,8 @@ ghost use Rattle.declared_names.specs.WrittenTypes as written;
 ghost use Rattle.constant_values.specs.ValueLaws.{ValuesHaveTypes};
 
 use crate::arrays::in_arrays;
+use constant_rules::st_scope::Scope;
 use plc_text::{NoMemory, Text};
-use st_scope::Scope;
 use st_tree::{SimpleSpec, TypeSpec};
 use st_types::StType;
 use std::alloc::Global;

@@ -4,7 +4,7 @@ use Rattle.st_rules.specs.Named.{first_place}
 use Rattle.st_initial.specs.declared.variables.Variable as held
 use Rattle.st_initial.specs.Members.{list_at}
 use Rattle.st_initial.specs.Variables.{variables_of}
-use Rattle.change_pairs.specs.Places.{Table, found_in}
+use Rattle.change_names.specs.Places.{Table, found_in}
 use Rattle.shape_trees.specs.Numbers.{names_of}
 use Rattle.change_paths.specs.Numbers.{found_at}
 use Rattle.std.specs.Prelude.{slice_get}

@@ -15,7 +15,7 @@ use Rattle.st_unit_rules.specs.NameRules.{member_name_faults, word_twice}
 use Rattle.st_unit_rules.specs.Worth.{same_worth}
 use Rattle.base_rules.specs.Used.{ChecksBase, ChecksInterfaces}
 use Rattle.member_rules.specs.Members.{ChecksMembers}
-use Rattle.routine_rules.specs.Bodies.{FindsBody}
+use Rattle.member_rules.specs.Bodies.{FindsBody}
 use Rattle.class_rules.specs.declared.parts.Broken.{Broken}
 use Rattle.class_rules.specs.declared.parts.Trees.{Trees}
 

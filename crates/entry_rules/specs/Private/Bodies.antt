@@ -8,7 +8,7 @@ use Rattle.st_tree.specs.declared.unit.Decl.{Decl}
 use Rattle.st_rules.specs.Faults.{least, earlier}
 use Rattle.st_unit_rules.specs.Checked.{TypedTypeBody}
 use Rattle.st_unit_rules.specs.DeclarationRules.{type_body_faults, body_depth}
-use Rattle.type_rules.specs.declared.types.CheckedType.{CheckedType}
+use Rattle.variable_rules.specs.CheckedType.{CheckedType}
 use Rattle.entry_rules.specs.declared.bodies.CheckedBody.{CheckedBody}
 use Rattle.entry_rules.specs.declared.groups.CheckedGroups.{CheckedGroups}
 

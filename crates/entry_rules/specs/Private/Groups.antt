@@ -10,7 +10,7 @@ use Rattle.declared_names.specs.Declarations.{item_line_of}
 use Rattle.declared_names.specs.WrittenTypes.{type_written, type_faults, has_too_many_dimensions}
 use Rattle.st_unit_rules.specs.Checked.{Each, TypedGroup}
 use Rattle.st_unit_rules.specs.VariableRules.{instance_out_of_place, initial_if_given}
-use Rattle.type_rules.specs.declared.types.CheckedType.{CheckedType}
+use Rattle.variable_rules.specs.CheckedType.{CheckedType}
 use Rattle.variable_rules.specs.declared.given.CheckedGiven.{CheckedGiven}
 use Rattle.entry_rules.specs.declared.groups.CheckedGroup.{CheckedGroup}
 use Rattle.entry_rules.specs.declared.groups.CheckedGroups.{CheckedGroups}

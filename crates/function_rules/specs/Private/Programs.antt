@@ -15,7 +15,7 @@ use Rattle.st_unit_rules.specs.DeclarationRules.{program_limits}
 use Rattle.st_unit_rules.specs.NameRules.{space_faults, section_names}
 use Rattle.st_unit_rules.specs.VariableRules.{of_program, sections_faults}
 use Rattle.routine_rules.specs.declared.bodies.FoundBody.{FoundBody}
-use Rattle.variable_rules.specs.declared.sections.CheckedSections.{CheckedSections}
+use Rattle.routine_rules.specs.CheckedSections.{CheckedSections}
 use Rattle.function_rules.specs.declared.programs.CheckedProgram.{CheckedProgram}
 
 abbrev pub cycles_and_limits : List (Decl ℕ) → Scope → ProgramDecl ℕ → Faults

@@ -5,7 +5,7 @@ use Rattle.st_tree.specs.declared.unit.Decl.{Decl}
 use Rattle.st_rules.specs.Faults.{least, earlier}
 use Rattle.declared_names.specs.WrittenTypes.{type_written, has_too_many_dimensions}
 use Rattle.st_unit_rules.specs.DeclarationRules.{unit, item_too_deep}
-use Rattle.type_rules.specs.declared.types.CheckedType.{CheckedType}
+use Rattle.variable_rules.specs.CheckedType.{CheckedType}
 use Rattle.variable_rules.specs.declared.items.CheckedItem.{CheckedItem}
 use Rattle.global_rules.specs.declared.shared.SharedItem.{SharedItem}
 

@@ -9,7 +9,7 @@ use Rattle.declared_names.specs.UnitNames.{class_scope, unit_names}
 use Rattle.st_unit_rules.specs.Checked.{TypedMember}
 use Rattle.st_unit_rules.specs.DeclarationRules.{method_faults}
 use Rattle.st_unit_rules.specs.VariableRules.{Home, section_faults}
-use Rattle.variable_rules.specs.declared.sections.CheckedSection.{CheckedSection}
+use Rattle.method_rules.specs.CheckedSection.{CheckedSection}
 use Rattle.member_rules.specs.declared.members.CheckedMember.{CheckedMember}
 use Rattle.member_rules.specs.declared.members.CheckedMembers.{CheckedMembers}
 use Rattle.method_rules.specs.declared.methods.CheckedMethod.{CheckedMethod}

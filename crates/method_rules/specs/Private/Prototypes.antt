@@ -7,8 +7,8 @@ use Rattle.st_rules.specs.Faults.{least}
 use Rattle.st_rules.specs.Scope.{Scope}
 use Rattle.st_unit_rules.specs.Checked.{Each, IfThere, TypedSection, TypedSpec}
 use Rattle.st_unit_rules.specs.VariableRules.{of_prototype}
-use Rattle.routine_rules.specs.declared.variables.CheckedVariables.{CheckedVariables}
-use Rattle.routine_rules.specs.Variables.{variables_faults}
+use Rattle.function_rules.specs.CheckedVariables.{CheckedVariables}
+use Rattle.function_rules.specs.Variables.{variables_faults}
 use Rattle.method_rules.specs.declared.prototypes.CheckedPrototype.{CheckedPrototype}
 
 pub record IsPrototype (c : CheckedPrototype) (heading : ℕ) (own : Name) (found : CheckedVariables) : Type 0 where

@@ -15,7 +15,7 @@ use Rattle.st_scope.specs.Tables.{Told, Knows}
 use Rattle.declared_names.specs.WrittenTypes.{type_written}
 use Rattle.declared_names.specs.UnitNames.{unit_scope, entry_kind}
 use Rattle.told_laws.specs.TellingLaws.{Sound}
-use Rattle.telling_list.specs.Jobs.{Job, jobs_in, is_told_of, with_job, can_be_told, Tells}
+use Rattle.telling_groups.specs.Jobs.{Job, jobs_in, is_told_of, with_job, can_be_told, Tells}
 use Rattle.telling_groups.specs.Groups.{Group, jobs_of_group}
 use Rattle.telling_groups.specs.Arranged.{Among}
 

@@ -3,7 +3,7 @@ use Rattle.std.specs.Prelude.{◌≡◌}
 use Rattle.st_rules.specs.Classes.{classes_in}
 use Rattle.member_names.specs.Known.{Knows}
 use Rattle.numbered_signatures.specs.Signatures.{Tells}
-use Rattle.program_instances.specs.Programs.{HasPrograms}
+use Rattle.configuration_rules.specs.Programs.{HasPrograms}
 use Rattle.st_unit_rules.specs.DeclarationRules.{unit, signatures}
 use Rattle.unit_check.specs.declared.side.CheckSide.{CheckSide}
 

@@ -12,7 +12,7 @@ use Rattle.st_rules.specs.declared.names.DeclaredClass.{DeclaredClass}
 use Rattle.st_rules.specs.Classes.{classes_in}
 use Rattle.st_rules.specs.Numbered.{each_numbered}
 use Rattle.st_rules.specs.Scope.{Scope}
-use Rattle.st_scope.specs.Tables.{Knows}
+use Rattle.told_names.specs.Tables.{Knows}
 use Rattle.told_laws.specs.ToldLaws.{TellsKinds}
 use Rattle.declared_names.specs.WrittenTypes.{type_written}
 use Rattle.declared_names.specs.UnitNames.{unit_scope, class_declared}

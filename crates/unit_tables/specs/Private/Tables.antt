@@ -7,7 +7,7 @@ use Rattle.st_rules.specs.Classes.{classes_in}
 use Rattle.st_rules.specs.Scope.{Scope}
 use Rattle.declared_names.specs.UnitNames.{unit_names}
 use Rattle.section_rules.specs.Variables.{classes_of}
-use Rattle.st_scope.specs.Tables.{Told, Knows}
+use Rattle.unit_names.specs.Tables.{Told, Knows}
 use Rattle.type_sizes.specs.declared.sizes.TypeSizes.{TypeSizes}
 use Rattle.type_sizes.specs.Sizes.{Measures}
 

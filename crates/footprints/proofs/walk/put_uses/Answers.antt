@@ -1,5 +1,5 @@
 use Rattle.st_values.specs.View.{program_of}
-use Rattle.body_uses.specs.Uses.{use_of}
+use Rattle.reached_routines.specs.Uses.{use_of}
 use Rattle.reached_routines.proofs.EnterLaws.{uses_left}
 use Rattle.footprints.proofs.PutLaws.{next}
 use Rattle.footprints.proofs.WalkLaws.{use_put}

@@ -1,6 +1,6 @@
 use Rattle.st_unit_rules.specs.Checked.{TypedPrototype}
 use Rattle.st_unit_rules.specs.DeclarationRules.{prototype_faults}
-use Rattle.variable_rules.proofs.EachLaws.{each_begun, each_next, each_least, each_trees}
+use Rattle.base_rules.proofs.EachLaws.{each_begun, each_next, each_least, each_trees}
 use Rattle.interface_rules.proofs.PrototypeLaws.{prototypes_ended}
 use Rattle.interface_rules.proofs.prototypes.check_prototypes.Goals as goal
 

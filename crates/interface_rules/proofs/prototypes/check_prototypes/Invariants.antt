@@ -1,6 +1,6 @@
 use Rattle.st_unit_rules.specs.Checked.{TypedPrototype}
 use Rattle.st_unit_rules.specs.DeclarationRules.{prototype_faults}
-use Rattle.variable_rules.proofs.EachLaws.{EachTo}
+use Rattle.base_rules.proofs.EachLaws.{EachTo}
 use Rattle.interface_rules.proofs.prototypes.check_prototypes.Given as goal
 
 abbrev pub invariant-loop-method : goal.invariant-loop-method

@@ -1,5 +1,5 @@
 use Rattle.section_rules.specs.Home.{home_of}
-use Rattle.variable_rules.proofs.EachLaws.{each_begun, each_next, each_least, each_trees}
+use Rattle.method_rules.proofs.EachLaws.{each_begun, each_next, each_least, each_trees}
 use Rattle.member_rules.specs.Private.Members.{member_sections, member_methods, TypedIfGood}
 use Rattle.member_rules.proofs.MemberLaws.{members_ended}
 use Rattle.member_rules.proofs.members.check_members.Goals as goal

@@ -1,7 +1,7 @@
 use Rattle.std.proofs.Common.{List, ℕ, None, false, subst}
 use Rattle.st_tree.specs.declared.declaration.Section.{Section}
 use Rattle.declared_names.specs.Variables.{sections_written}
-use Rattle.declared_variables.specs.Globals.{AddsGlobals}
+use Rattle.told_locals.specs.Globals.{AddsGlobals}
 use Rattle.unit_names.specs.Private.Known.{scope_in}
 use Rattle.unit_names.proofs.GlobalLaws.{configuration_added}
 use Rattle.unit_names.proofs.globals.add_configuration.Goals as goal

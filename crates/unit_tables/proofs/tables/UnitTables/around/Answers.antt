@@ -1,7 +1,7 @@
 use Rattle.std.proofs.Common.{sym, ◌∙◌, subst}
 use Rattle.st_tree.specs.declared.unit.Unit.{Unit}
 use Rattle.st_rules.specs.Classes.{classes_in}
-use Rattle.st_scope.specs.Tables.{Knows}
+use Rattle.unit_names.specs.Tables.{Knows}
 use Rattle.told_laws.specs.ToldLaws.{TellsKinds}
 use Rattle.unit_tables.proofs.TableLaws.{names_tell}
 use Rattle.unit_tables.proofs.tables.UnitTables.around.Goals as goal
