@@ -25,7 +25,7 @@ use Rattle.st_rules.specs.Scope.{Scope}
 use Rattle.st_rules.specs.Expressions.{is_int, is_untyped, front_asked, asked_behind, type_of}
 use Rattle.st_check_expr.specs.Callee.{Callee as CodeCallee}
 use Rattle.st_check_expr.specs.Callee.TheVariants as callees
-use Rattle.st_check_expr.specs.StCallsCallee.{called}
+use Rattle.st_check_expr.specs.CalleeWords.{called}
 use Rattle.st_check_expr.proofs.NegateLaws.{sign_is}
 use Rattle.declared_names.specs.Constants.{Outcome, cannot_be_told, constant_value, kind_in, literal_outcome, outcome_map, operand_value, converted_value, conversion_asked}
 use Rattle.constant_values.specs.Outcome.{outcome}

@@ -1,2 +1,3 @@
 -- The words of private contracts.
+pub mod Operations
 pub mod Places

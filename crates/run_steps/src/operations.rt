@@ -7,6 +7,7 @@ ghost use Rattle.plc_num.specs.Arithmetic as numbers;
 ghost use Rattle.plc_num.specs.Bits as bits;
 ghost use Rattle.value_trees.specs.Value.{value_of};
 ghost use Rattle.run_state.specs.State.{Shows, state_of};
+ghost use Rattle.run_steps.specs.Private.Operations.{or_second};
 
 use crate::arithmetic::{
     complement, conjunction, difference, disjunction, exclusive_disjunction, product, quotient,
@@ -144,6 +145,37 @@ fn is_at_most(x: &Value, y: &Value) -> bool
     number_in(x) <= number_in(y)
 }
 
+/// What an operator gives for its two operands, in the elementary type of the result; none where that is the second operand as it is.
+fn combined(
+    m: &RunState,
+    operator: Operator,
+    e: Elem,
+    x: &Value,
+    y: &Value,
+    line: u32,
+) -> Result<Option<Value>, Stop>
+    ensures { Shows (or_second (value_of y.now)) result (words.operation operator e (value_of x.now) (value_of y.now) line (state_of m.now)) (state_of m.now) }
+{
+    match operator {
+        Operator::Plus => Ok(Some(added(e, x, y))),
+        Operator::Minus => Ok(Some(lessened(e, x, y))),
+        Operator::Times => Ok(Some(multiplied(e, x, y))),
+        Operator::Divide => Ok(Some(divide(m, e, number_in(x), number_in(y), line)?)),
+        Operator::Modulo => Ok(Some(modulo(m, e, number_in(x), number_in(y), line)?)),
+        Operator::And => Ok(Some(both(e, x, y))),
+        Operator::Or => Ok(Some(either(e, x, y))),
+        Operator::Xor => Ok(Some(unlike(e, x, y))),
+        Operator::AndThen => Ok(None),
+        Operator::OrElse => Ok(None),
+        Operator::Equal => Ok(Some(truth(same_value(x, y)))),
+        Operator::Differs => Ok(Some(truth(!same_value(x, y)))),
+        Operator::Less => Ok(Some(truth(is_less(x, y)))),
+        Operator::Greater => Ok(Some(truth(is_less(y, x)))),
+        Operator::AtMost => Ok(Some(truth(is_at_most(x, y)))),
+        Operator::AtLeast => Ok(Some(truth(is_at_most(y, x)))),
+    }
+}
+
 /// What an operator gives for its two operands, in the elementary type of the result.
 pub fn operate(
     m: &RunState,
@@ -155,22 +187,9 @@ pub fn operate(
 ) -> Result<Value, Stop>
     ensures { Shows value_of result (words.operation operator e (value_of x.now) (value_of y) line (state_of m.now)) (state_of m.now) }
 {
-    match operator {
-        Operator::Plus => Ok(added(e, x, &y)),
-        Operator::Minus => Ok(lessened(e, x, &y)),
-        Operator::Times => Ok(multiplied(e, x, &y)),
-        Operator::Divide => divide(m, e, number_in(x), number_in(&y), line),
-        Operator::Modulo => modulo(m, e, number_in(x), number_in(&y), line),
-        Operator::And => Ok(both(e, x, &y)),
-        Operator::Or => Ok(either(e, x, &y)),
-        Operator::Xor => Ok(unlike(e, x, &y)),
-        Operator::AndThen => Ok(y),
-        Operator::OrElse => Ok(y),
-        Operator::Equal => Ok(truth(same_value(x, &y))),
-        Operator::Differs => Ok(truth(!same_value(x, &y))),
-        Operator::Less => Ok(truth(is_less(x, &y))),
-        Operator::Greater => Ok(truth(is_less(&y, x))),
-        Operator::AtMost => Ok(truth(is_at_most(x, &y))),
-        Operator::AtLeast => Ok(truth(is_at_most(&y, x))),
+    match combined(m, operator, e, x, &y, line) {
+        Ok(Some(v)) => Ok(v),
+        Ok(None) => Ok(y),
+        Err(stop) => Err(stop),
     }
 }

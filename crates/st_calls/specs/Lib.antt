@@ -4,5 +4,5 @@ pub mod Parameters
 pub mod Matching
 pub mod Private
 pub use Rattle.st_places.specs.Standing
-pub use Rattle.st_places.specs.declared.standing.Standing as StPlacesStanding
+pub use Rattle.st_places.specs.declared.standing.Standing as StandingPlace
 pub use Rattle.st_places.specs.Meant

@@ -23,7 +23,7 @@ use Rattle.st_rules.specs.Literals.{asked_of}
 use Rattle.st_rules.specs.Expressions.{note, meant_target, type_of, typed}
 use Rattle.st_rules.specs.Statements.{condition_faults, case_selector_faults, labels_faults, for_faults, control_type, control_asked, statements_faults, branches_faults, cases_faults, otherwise_faults, typed_statements, typed_branches, typed_cases}
 use Rattle.st_body_parts.specs.Checked.{Checked}
-use Rattle.st_body_parts.specs.StExprPartsFound.{Finds}
+use Rattle.st_body_parts.specs.FoundExpression.{Finds}
 use Rattle.st_body_parts.specs.declared.found.CheckedStatement.{CheckedStatement}
 use Rattle.st_body_parts.specs.declared.found.CheckedStatements.{CheckedStatements}
 use Rattle.st_body_parts.specs.declared.found.CheckedBranch.{CheckedBranch}

@@ -14,7 +14,7 @@ use Rattle.st_rules.specs.Places as places
 use Rattle.st_rules.specs.Places.{is_last, root_line, root_faults, root_standing, selected, selector_faults, whole_faults, place_type}
 use Rattle.st_rules.specs.Expressions.{note, whole_target, reference_to, reference_to_no_instance, along_faults, typed_root, typed_along, selector_index_faults, typed_selector, standing_note}
 use Rattle.st_rules.proofs.FaultLaws.{earlier-none}
-use Rattle.st_expr_parts.specs.StPlacesStanding.{Standing}
+use Rattle.st_expr_parts.specs.StandingPlace.{Standing}
 use Rattle.st_expr_parts.specs.Standing.{standing}
 use Rattle.st_expr_parts.specs.declared.along.Along.{Along}
 use Rattle.st_expr_parts.specs.declared.along.CheckedSelector.{CheckedSelector}

@@ -21,7 +21,7 @@ use Rattle.st_rules.specs.Places.{root_line, root_standing, selected, selector_f
 use Rattle.st_rules.specs.Calls.{Matched, callee, heads, is_on_super, asked_by}
 use Rattle.st_rules.specs.Scope.{Scope}
 use Rattle.st_rules.specs.Expressions.{line_of, is_untyped, front_asked, asked_behind, typed_root}
-use Rattle.st_expr_parts.specs.StPlacesStanding.{Standing}
+use Rattle.st_expr_parts.specs.StandingPlace.{Standing}
 use Rattle.st_expr_parts.specs.Standing.{standing}
 use Rattle.st_expr_parts.specs.declared.along.Along.{Along}
 use Rattle.st_expr_parts.specs.declared.along.CheckedSelector.{CheckedSelector}

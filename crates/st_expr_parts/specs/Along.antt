@@ -7,7 +7,7 @@ use Rattle.st_rules.specs.Faults.{earlier}
 use Rattle.st_rules.specs.Scope.{Scope}
 use Rattle.st_rules.specs.Places as places
 use Rattle.st_rules.specs.Expressions.{part_note, standing_note}
-use Rattle.st_calls.specs.StPlacesStanding.{Standing}
+use Rattle.st_calls.specs.StandingPlace.{Standing}
 use Rattle.st_calls.specs.Standing.{standing}
 use Rattle.st_expr_parts.specs.declared.along.Along.{Along}
 use Rattle.st_expr_parts.specs.declared.along.CheckedSelector.{CheckedSelector}

@@ -9,6 +9,6 @@ pub mod Slots
 pub mod Wholes
 pub mod Wraps
 pub use Rattle.st_calls.specs.Standing
-pub use Rattle.st_calls.specs.StPlacesStanding
+pub use Rattle.st_calls.specs.StandingPlace
 pub use Rattle.st_calls.specs.declared.callee.Callee
-pub use Rattle.st_calls.specs.Callee as StCallsCallee
+pub use Rattle.st_calls.specs.Callee as CalleeWords

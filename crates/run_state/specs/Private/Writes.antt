@@ -2,7 +2,7 @@
 use Rattle.std.specs.Prelude.{◌≡◌, ℕ, Bool, true, false, List, Option, Some, None, Result, Ok, Err}
 use Rattle.st_tree.specs.declared.path.Path.{Path}
 use Rattle.st_tree.specs.declared.path.Step.{Step}
-use Rattle.value_trees.specs.StValuesValue.{Value, Store, put, value_with, ◌>>=◌}
+use Rattle.value_trees.specs.PlainValue.{Value, Store, put, value_with, ◌>>=◌}
 use Rattle.st_meaning.specs.State.{State, Run, Done, there, Slot, holds, Frame, frame_at, frame_value, held_in, with_local}
 use Rattle.value_trees.specs.declared.value.Value.{Value as CodeValue}
 use Rattle.value_trees.specs.Value.{value_of}

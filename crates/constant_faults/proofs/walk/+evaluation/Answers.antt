@@ -1,6 +1,6 @@
 use Rattle.std.proofs.Common.{refl, ap, ◌∙◌}
 use Rattle.declared_names.specs.Constants.{converted_value}
-use Rattle.st_check_expr.specs.StCallsCallee.{called}
+use Rattle.st_check_expr.specs.CalleeWords.{called}
 use Rattle.constant_faults.proofs.AheadSteps.{looks_nowhere}
 use Rattle.constant_faults.proofs.LoopSteps.{looks_here, steps_to, end_arm}
 use Rattle.constant_faults.proofs.NodeLaws.{paren_arm, not_arm, sign_arm, chain_arm, call_arm, sign_worth, conversion_worth, plain_worth, positional_given, input_given, output_given}

@@ -1,5 +1,5 @@
 use Rattle.std.proofs.Common.{ap, ◌∙◌}
-use Rattle.value_trees.specs.StValuesValue.{put}
+use Rattle.value_trees.specs.PlainValue.{put}
 use Rattle.value_trees.specs.Value.{value_of, members_of}
 use Rattle.run_state.specs.State.{unwind}
 use Rattle.run_state.proofs.Stores.{remembered}
