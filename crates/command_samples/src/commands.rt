@@ -2,10 +2,10 @@
 
 use check_console::check;
 use console_words::{Order, order_of};
-use language_judge::Language;
 use play_console::play;
 use plc_io::{MemSink, MemSource};
 use plc_text::{NoMemory, Text};
+use source_check::Language;
 use std::alloc::{AllocError, Global};
 
 /// Room for the longest report of a case.

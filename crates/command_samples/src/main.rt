@@ -10,8 +10,8 @@ mod commands;
 
 use crate::commands::{Stream, Streams, answer, ordered};
 use console_words::Order;
-use language_judge::source_check::check_source;
 use plc_text::{Denied, number, split_field};
+use source_check::check_source;
 use std::alloc::{AllocError, Global};
 use std::io;
 

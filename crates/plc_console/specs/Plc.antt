@@ -10,7 +10,7 @@ use Rattle.console_command.specs.declared.outcome.Verdict.{Verdict}
 use Rattle.console_command.specs.declared.outcome.Verdict.TheVariants as verdict
 use Rattle.console_words.specs.declared.words.Order.{Order}
 use Rattle.console_words.specs.declared.words.Order.TheVariants.{Check, Play}
-use Rattle.language_judge.specs.Judge.{Accepts, Refuses}
+use Rattle.source_check.specs.Judge.{Accepts, Refuses}
 use Rattle.play_console.specs.Report.{PlayReports}
 
 abbrev pub outcome_of : Status → Outcome

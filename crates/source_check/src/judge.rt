@@ -1,20 +1,20 @@
 //! What judges program texts by the rules of the language.
 
+use crate::source::check_source;
 use console_command::Checker;
 use plc_text::{Denied, Text};
-use source_check::check_source;
 use st_change::Judge;
 use st_tree::Program;
 use std::alloc::Global;
 
 /// Structured Text (IEC 61131-3:2013, clauses 6 and 7): a text is accepted as its checked program, or has one refusal, as
-/// `source_check::check_source` says.
+/// `check_source` says.
 pub struct Language;
 
 impl Judge for Language {
     ghost use Rattle.st_prelude.specs.declared.text.TheConstants.{PRELUDE};
-    ghost use Rattle.language_judge.specs.Judge.{Accepts, Refuses};
-    ghost use Rattle.language_judge.specs.JudgeLaws.{judges as judges_law};
+    ghost use Rattle.source_check.specs.Judge.{Accepts, Refuses};
+    ghost use Rattle.source_check.specs.JudgeLaws.{judges as judges_law};
 
     ghost accepts = { Accepts };
 
@@ -25,7 +25,7 @@ impl Judge for Language {
 
 impl Checker for Language {
     ghost use Rattle.st_prelude.specs.declared.text.TheConstants.{PRELUDE};
-    ghost use Rattle.language_judge.specs.JudgeLaws.{unfolds as unfolds_law};
+    ghost use Rattle.source_check.specs.JudgeLaws.{unfolds as unfolds_law};
 
     fn check(alloc: Global, text: &Text) -> Result<Program, Denied> {
         check_source(alloc, text.as_str())

@@ -12,7 +12,7 @@ use Rattle.region_instances.specs.Instances.{RegionsUnfold}
 use Rattle.st_accepted.proofs.AcceptedLaws.{accepted_laws}
 use Rattle.source_check.specs.Source.{IsRefusal}
 use Rattle.unfolding_laws.proofs.UnfoldingLaws.{unfolding_laws}
-use Rattle.language_judge.specs.Judge.{IsAcceptedAs}
+use Rattle.source_check.specs.Judge.{IsAcceptedAs}
 
 -- ---- refusals with the same parts
 
