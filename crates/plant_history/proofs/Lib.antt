@@ -1,0 +1,4 @@
+pub mod Running
+pub mod Lasting
+pub mod Counting
+pub mod AllLaws
