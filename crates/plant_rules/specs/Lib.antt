@@ -1,0 +1,5 @@
+pub mod Meaning
+pub mod Denial
+pub mod Next
+pub mod One
+pub mod History
