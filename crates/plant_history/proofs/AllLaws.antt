@@ -1,11 +1,12 @@
 -- The laws of every legal history.
-use Rattle.std.proofs.Common.{◌≡◌, ℕ, List, [], ◌∷◌, refl, sym, ap, ◌∙◌, subst, ⊎_elim, arith}
+use Rattle.std.proofs.Common.{◌≡◌, ◌≤◌, ℕ, List, [], ◌∷◌, length, refl, sym, ap, ◌∙◌, subst, ⊎_elim, arith}
 use Rattle.cycle_journal.specs.Interleaving.{numbers_of}
 use Rattle.plant_rules.specs.Meaning.{Contents, Meaning, Frames, Has}
 use Rattle.plant_rules.specs.One.{begins}
 use Rattle.plant_rules.specs.History.{Past, Step, stage_at, open_by, done, State, opening, state_of, Legal}
 use Rattle.plant_history.specs.Running.{HistoryLaws, longer, IsTurnOf, NoFinish, NoEvent, changes_done}
 use Rattle.plant_history.proofs.Running.{turn_play, seen_has, has_seen, Sane, sane_opening, runs_from, marked_opening, marked_history}
+use Rattle.plant_history.proofs.Order.{interleaved}
 use Rattle.plant_history.proofs.Lasting.{sane_fold, done_fold, open_fold, turn_fold, turn_in, apart_fold, apart_opening, longer_state, legal_parts}
 use Rattle.plant_history.proofs.Counting.{Counted, counted_fold, counted_few, counted_left, counted_opening}
 
@@ -32,12 +33,16 @@ module _ {W : Type 0} (m : Meaning W) (frames : Frames m) where
       let rest = turn_fold m v.script (state_of m v) es w p (legal_parts m v es legal).1 is out in
       (ap (λ (s : State W). s.turn) (longer_state m v es) ∙ rest.turn-is, ap (λ (s : State W). s.version) (longer_state m v es) ∙ rest.version-is)
 
+  has_entry : (v : Past W) → m.right v.first → Legal m v → (p : ℕ) → 1 ≤ p → p ≤ length v.script.plays → stage_at (state_of m v).stages p ≡ done → Has (numbers_of (state_of m v).entries) p
+  has_entry v right legal p low high e = ⊎_elim (λ h. absurd h) (λ h. h) (seen_has [] (numbers_of (state_of m v).entries) p ((marked_history m frames v right legal).marks p low high e))
+
   pub history_laws : HistoryLaws m
   history_laws = record {
     runs = λ v right legal. runs_from m frames v.script (begins v.first v.contents) (opening v) v.history (sane_opening m frames v.script v right) legal refl;
     order = λ v right legal. (marked_history m frames v right legal).in-turn;
-    marks = λ v right legal p low high e. ⊎_elim (λ h. absurd h) (λ h. h) (seen_has [] (numbers_of (state_of m v).entries) p ((marked_history m frames v right legal).marks p low high e));
+    marks = has_entry;
     entered = λ v right legal p h. (marked_history m frames v right legal).back p (has_seen [] (numbers_of (state_of m v).entries) p h);
+    interleaves = λ v right legal follow all. interleaved v.script (numbers_of (state_of m v).entries) follow (marked_history m frames v right legal).in-turn (λ p low high. has_entry v right legal p low high (all p low high));
     earlier = λ v es legal. (legal_parts m v es legal).0;
     stays-done = still_done;
     stays-open = still_open;

@@ -1,6 +1,6 @@
 -- What follows for every legal history.
 use Rattle.std.specs.Prelude.{◌≡◌, ℕ, zero, suc, ◌<◌, ◌≤◌, ◌+◌, List, [], ◌∷◌, ◌++◌, length, map, Some}
-use Rattle.cycle_journal.specs.Interleaving.{numbers_of}
+use Rattle.cycle_journal.specs.Interleaving.{numbers_of, Follow, Interleaves}
 use Rattle.cycle_journal.specs.declared.entry.CycleReply.{CycleReply}
 use Rattle.cycle_journal.specs.declared.entry.Entry.{Entry}
 use Rattle.cycle_journal.specs.declared.play.Play.{Play}
@@ -61,6 +61,9 @@ pub record HistoryLaws {W : Type 0} (m : Meaning W) : Type 0 where
   -- a play is done exactly where it has its entry
   pub marks : (v : Past W) → m.right v.first → Legal m v → (p : ℕ) → 1 ≤ p → p ≤ length v.script.plays → stage_at (state_of m v).stages p ≡ done → Has (numbers_of (state_of m v).entries) p
   pub entered : (v : Past W) → m.right v.first → Legal m v → (p : ℕ) → Has (numbers_of (state_of m v).entries) p → stage_at (state_of m v).stages p ≡ done
+  -- where each play has its entry, the entries are those of the phases, one phase after another
+  pub interleaves : (v : Past W) → m.right v.first → Legal m v → Follow 1 v.script.phases (length v.script.plays + 1) → ((p : ℕ) → 1 ≤ p → p ≤ length v.script.plays → stage_at (state_of m v).stages p ≡ done)
+      → Interleaves v.script.plays v.script.phases (state_of m v).entries
   -- the beginning of a legal history is one
   pub earlier : (v : Past W) (es : List (Step W)) → Legal m (longer v es) → Legal m v
   pub stays-done : (v : Past W) (es : List (Step W)) (p : ℕ) → Legal m (longer v es) → stage_at (state_of m v).stages p ≡ done → stage_at (state_of m (longer v es)).stages p ≡ done

@@ -2,7 +2,7 @@
 
 ghost use Rattle.std.specs.Prelude.{◌≡◌, ℕ, ◌+◌, ◌<◌, ◌≤◌, ◌^◌, List, length, Ok, Err, IfOk, IfErr};
 ghost use Rattle.std.specs.Arc.{arc_value};
-ghost use Rattle.plant_rules.specs.Meaning.{FitOn, Whole};
+ghost use Rattle.plant_rules.specs.Meaning.{FitOn, IsUndenied, Whole};
 ghost use Rattle.plant_rules.specs.Next.{IsKit, IsSupplied};
 ghost use Rattle.plant_rules.specs.Denial.{OnRefused};
 
@@ -112,6 +112,7 @@ pub trait Controlled: Sized + Drop {
     fn prepare(&self, alloc: Global, text: &Text) -> Result<Self::Change, Denied>
         requires { meaning.number self.now + 1 < 2 ^ 32 }
         ensures ok { IfOk result (λ c. (base_of c ≡ self.now) × (text_of c ≡ text.now) × fresh c) }
+        ensures accepted { IfOk result (λ c. IsUndenied meaning self.now text.now) }
         ensures err { IfErr result (λ d. OnRefused d (meaning.denied self.now text.now)) };
 
     /// The number of the version that the change was prepared from.
