@@ -1,0 +1,43 @@
+use Rattle.std.proofs.Common.{◌<◌, ◌∙◌, ap, sym, subst, ℕ, arith}
+use Rattle.std.proofs.lemmas.List.{map-append, length-map}
+use Rattle.plant_rules.specs.History.{answered}
+use Rattle.plant_history.proofs.Running.{idle_done}
+use Rattle.plant_core.proofs.Stages.{onward}
+use Rattle.plant_core.proofs.Events.{kept_answered}
+use Rattle.plant_core.proofs.CauseLaws.{room_of, version_is, view_more, entry_play}
+use Rattle.plant_core.proofs.hub.Core.note.Goals as goal
+
+pub push_reserved-requires : goal.push_reserved-requires
+push_reserved-requires g c =
+    let room = room_of _ _ _ _ _ _ _ c.self.view_is c.self.invariant c.requires.0.idle-is idle_done in
+    let r = rw length-map at room.1 in
+    let l = c.self.inside.events.ok in
+    omega (arith, r, l)
+
+pub push_reserved-requires-2 : goal.push_reserved-requires-2
+push_reserved-requires-2 g c =
+    let room = room_of _ _ _ _ _ _ _ c.self.view_is c.self.invariant c.requires.0.idle-is idle_done in
+    let r = room.0 in
+    let l = c.self.inside.stock.entries.ok in
+    omega (arith, r, l)
+
+pub index_mut-requires : goal.index_mut-requires
+index_mut-requires g c =
+    let low = (entry_play _ _ _ _ _ _ _ c.self.view_is c.self.invariant c.requires.0.idle-is idle_done).2 in
+    let l = c.self.inside.status.ok in
+    subst (λ (n : ℕ). c.args.play < n) (sym l.0) low
+
+pub mark-requires : goal.mark-requires
+mark-requires g c =
+    let x = entry_play _ _ _ _ _ _ _ c.self.view_is c.self.invariant c.requires.0.idle-is idle_done in
+    record { from = x.0; to = x.1 }
+
+pub invariant_of-self : goal.invariant_of-self
+invariant_of-self g c =
+    rw (c.push_reserved-2.ensures.items, c.push_reserved-2.ensures.capacity, c.push_reserved.ensures.items, c.push_reserved.ensures.capacity, c.mark.ensures, c.of-seen.ensures, map-append)
+    (onward _ _ _ _ _ _ _ _ _ c.self.view_is c.self.invariant
+    (λ k. kept_answered _ g.P.Controlled.meaning g.met.P.Controlled.frames _ _ _ _ _ _ k (c.version-version.ensures.number ∙ ap g.P.Controlled.meaning.number (version_is _ _ _ _ _ k c.deref.ensures)) c.requires))
+
+pub returns : goal.returns
+returns g c =
+    rw (c.push_reserved.ensures.items, c.mark.ensures, map-append) (view_more _ _ _ _ _ _ c.self.view_is (ap answered c.of-seen.ensures))

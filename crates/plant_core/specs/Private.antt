@@ -1,0 +1,5 @@
+pub mod Meeting
+pub mod Tasks
+pub mod Causes
+pub mod Keeping
+pub mod Ledger

@@ -1,0 +1,3 @@
+pub mod Movings
+pub mod Copies
+pub mod Places
