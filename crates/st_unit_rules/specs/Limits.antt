@@ -16,7 +16,7 @@ use Rattle.st_rules.specs.Classes.{base_of, chain}
 use Rattle.st_rules.specs.Interfaces.{extended}
 use Rattle.st_rules.specs.Faults.{Faults, when}
 use Rattle.st_rules.specs.Scope.{Scope, is_of_instance, parts_of, field_list, variables_of}
-use Rattle.declared_names.specs.WrittenTypes.{type_written, has_too_many_dimensions}
+use Rattle.declared_names.specs.WrittenTypes.{array_depth, type_written}
 use Rattle.declared_names.specs.Declarations.{Declaration}
 use Rattle.st_unit_rules.specs.Worth.{count_to}
 use Rattle.st_unit_rules.specs.Cycles.{element_names, type_place, leads_to_cycle, lies_on_cycle}
@@ -81,6 +81,10 @@ too_many_interfaces_above line interfaces i = when (has_way (extended interfaces
 
 -- ---- types by what they contain
 
+abbrev pub has_too_many_dimensions : Option StType → Bool
+has_too_many_dimensions None = false
+has_too_many_dimensions (Some t) = nat_lt 64 (array_depth t)
+
 module _ (s : Scope) where
   abbrev pub kinds_told : List (Option StType) → List StType
   kinds_told [] = []
@@ -125,9 +129,9 @@ module _ (s : Scope) where
     abbrev pub is_endless : TypeSpec ℕ → Bool
     is_endless t = list_any (λ name. comes_to_cycle_by (type_place ds name)) (element_names t.element)
 
-    -- a written type with more than so many steps of containment
+    -- a written type with more than so many steps of containment, or dimensions
     abbrev pub is_deeper : ℕ → TypeSpec ℕ → Bool
-    is_deeper n t = has_too_many_dimensions s t || has_depth_told (suc n) (type_written s t) && not (is_endless t)
+    is_deeper n t = (has_too_many_dimensions (type_written s t) || has_depth_told (suc n) (type_written s t)) && not (is_endless t)
 
     abbrev pub too_deep : ℕ → ℕ → TypeSpec ℕ → Faults
     too_deep n line t = when (is_deeper n t) E16 line
