@@ -41,7 +41,7 @@ use Rattle.st_rules.specs.Signatures.{signature}
 use Rattle.st_rules.specs.Statements.{body_faults}
 use Rattle.st_unit_rules.specs.Addresses.{Bits, variable_bits, all_bits, bits_shared}
 use Rattle.st_unit_rules.specs.ConfigurationRules.{second_configuration, tasks_and_instances}
-use Rattle.st_unit_rules.specs.Cycles.{cycle_faults, inner_cycles, leads_to_cycle}
+use Rattle.st_unit_rules.specs.Cycles.{cycle_faults, inner_cycles, leads_to_cycle, own_values}
 use Rattle.declared_names.specs.Declarations.{Declaration, an_entry, a_global, an_interface, a_class, a_function, a_program, a_configuration, Global, Region, of_global, of_instance, Placed, declarations, configuration_globals, region_of_global, is_class, is_interface, is_entry, is_configuration, is_first_configuration, number_among, entries_in, programs_in, name_of, item_line_of, item_line, heading_line}
 use Rattle.st_unit_rules.specs.Initials.{initial_faults}
 use Rattle.st_unit_rules.specs.Limits.{too_many_declarations, too_many_classes, too_many_regions, too_many_values, too_many_methods, too_many_parameters, too_many_locals, too_many_bases, too_many_interfaces_above, most_steps, is_too_deep, too_deep, variable_too_deep, values_of, all_values, sum_of}
@@ -146,10 +146,10 @@ module _ (decls : List (Decl ℕ)) where
   body_depth line i n (body.Enumeration ns) = []
   body_depth line i n (body.Structure gs) = when (is_too_deep unit (type.Structure n) && not (leads_to_cycle (declarations decls) i)) E16 line
 
-  abbrev pub type_body_faults : TypeBody ℕ → Faults
-  type_body_faults (body.Alias t) = type_faults unit t
-  type_body_faults (body.Enumeration ns) = []
-  type_body_faults (body.Structure gs) = flat_map group_faults gs
+  abbrev pub type_body_faults : List ℕ → TypeBody ℕ → Faults
+  type_body_faults name (body.Alias t) = type_faults unit t ++ own_values name t
+  type_body_faults name (body.Enumeration ns) = []
+  type_body_faults name (body.Structure gs) = flat_map group_faults gs
 
   -- ---- classes and function blocks
 
@@ -289,7 +289,7 @@ module _ (decls : List (Decl ℕ)) where
   -- ---- all rules of a declaration
 
   abbrev pub sort_faults : ℕ → Placed → Declaration → Faults
-  sort_faults i x (an_entry t) = space_faults (part_names t.body) ++ type_body_faults t.body ++ body_depth t.name.line i (number_among is_entry x) t.body
+  sort_faults i x (an_entry t) = space_faults (part_names t.body) ++ type_body_faults t.name.text t.body ++ body_depth t.name.line i (number_among is_entry x) t.body
   sort_faults i x (a_global g) = global_faults x.regions g
   sort_faults i x (an_interface d) = interface_declaration_faults (number_among is_interface x) d
   sort_faults i x (a_class d) = class_declaration_faults i (number_among is_class x) d ++ too_many_classes d.line (number_among is_class x)

@@ -1,5 +1,5 @@
 -- E16: the limits of what a unit declares: counts, depths and values.
-use Rattle.std.specs.Prelude.{ℕ, zero, suc, ◌+◌, ◌*◌, max, nat_eq, nat_lt, nat_le, ◌-ℤ◌, Bool, true, false, not, ◌&&◌, if◌then◌else◌, List, [], ◌∷◌, ◌++◌, map, flat_map, filter, length, Option, Some, None}
+use Rattle.std.specs.Prelude.{ℕ, zero, suc, ◌+◌, ◌*◌, max, nat_eq, nat_lt, nat_le, ◌-ℤ◌, Bool, true, false, not, ◌&&◌, ◌||◌, if◌then◌else◌, List, [], ◌∷◌, ◌++◌, map, flat_map, filter, length, Option, Some, None}
 use Rattle.std.specs.List.{list_any}
 use Rattle.std.specs.Option.{option_to_list}
 use Rattle.plc_text.specs.declared.code.Code.TheVariants.{E16}
@@ -131,9 +131,9 @@ module _ (s : Scope) where
     abbrev pub too_deep : ℕ → ℕ → TypeSpec ℕ → Faults
     too_deep n line t = when (has_depth_told (suc n) (type_written s t) && not (is_endless t)) E16 line
 
-    -- that of a variable, a parameter or a result: so many dimensions neither
+    -- that of a variable, a parameter or a result: more dimensions neither
     abbrev pub variable_too_deep : ℕ → ℕ → TypeSpec ℕ → Faults
-    variable_too_deep n line t = too_deep n line t ++ when (has_many_dimensions (type_written s t) && not (is_endless t)) E16 line
+    variable_too_deep n line t = when ((has_many_dimensions (type_written s t) || has_depth_told (suc n) (type_written s t)) && not (is_endless t)) E16 line
 
   -- ---- counted values
 
