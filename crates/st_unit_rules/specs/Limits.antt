@@ -78,6 +78,11 @@ too_many_interfaces_above line interfaces i = too_many_above line (extended inte
 
 -- ---- types by what they contain
 
+-- arrays of arrays, more than may be
+abbrev pub has_many_dimensions : Option StType → Bool
+has_many_dimensions None = false
+has_many_dimensions (Some t) = nat_lt most_steps (array_depth t)
+
 module _ (s : Scope) where
   abbrev pub kinds_told : List (Option StType) → List StType
   kinds_told [] = []
@@ -116,11 +121,6 @@ module _ (s : Scope) where
   -- a type of more steps than may be
   abbrev pub is_too_deep : StType → Bool
   is_too_deep t = has_depth (suc most_steps) t
-
-  -- arrays of arrays, more than may be
-  abbrev pub has_many_dimensions : Option StType → Bool
-  has_many_dimensions None = false
-  has_many_dimensions (Some t) = nat_lt most_steps (array_depth t)
 
   module _ (ds : List Declaration) where
     -- what contains itself, or leads to what does, has no depth
