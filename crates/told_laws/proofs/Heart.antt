@@ -24,7 +24,7 @@ use Rattle.st_rules.specs.Scope.{Scope, Meant, a_variable, a_function, an_enumer
 use Rattle.st_rules.specs.Scope as scope
 use Rattle.st_rules.specs.Places.{an_enumeration, a_value_of, part_type, root_line, root_standing, root_faults, whole_faults, placed, selected, standing_of, meant_type, name_faults, body_variable_in_a_method, qualified_standing, part_of, part_faults, place_type, is_fixed, is_no_variable, qualifies, standing_type, selector_faults, too_many_selectors, super_without_base, target_faults, holds_instances_if_told, qualified_faults, is_outer_output}
 use Rattle.st_rules.specs.Calls.{a_conversion, callee, name_callee, is_on_super, conversion_named, heads, Matched, first_match, later_matches, asked_by, binds, matched_type, value_unsuited, bound_to_another_type, bound_no_variable, is_bindable_place, output_unsuited, call_matches, callee_faults, call_without_result, call_type}
-use Rattle.st_rules.specs.Expressions.{is_untyped, front_asked, operand_asked, asked_behind, type_of, row_type, note_of_value, whole_target, qualified_target, part_target, value_target, is_conversion, expression_faults, faults, row_faults, along_faults, argument_faults, called_root_faults, given_unsuited, enumerator_type, value_type, enumerator_target, enumerator_not_found, operand_unsuited, row_unsuited, line_of}
+use Rattle.st_rules.specs.Expressions.{is_untyped, front_asked, operand_asked, asked_behind, type_of, row_type, note_of_value, whole_target, qualified_target, part_target, value_target, is_conversion, faults, row_faults, along_faults, argument_faults, called_root_faults, given_unsuited, enumerator_type, value_type, enumerator_target, enumerator_not_found, operand_unsuited, row_unsuited, line_of}
 use Rattle.declared_names.specs.WrittenTypes.{bound_value, is_number_type}
 use Rattle.declared_names.specs.Constants.{Outcome, if_none, told_value, zero_divisor, target_value, is_told, constant_value, row_value, operand_value, conversion_asked, converted_value, operated, kind_in, outcome_map, no_constant_part, no_constant_operand, no_constant_argument, no_constant_place, is_constant_place, is_constant_meaning, names_are_told, operands_are_told, arguments_are_told}
 
