@@ -148,7 +148,7 @@ module _ (ds : List Declaration) where
   needed_below : (d : Declaration) → Below (length ds) (needed ds (Some d))
   needed_below (an_entry t) = needed_body_below t.body
   needed_below (a_global g) =
-      if_below (length ds) g.written.constant (needed_by_item ds g.item)
+      if_below (length ds) g.written.constant (needed_by_type ds g.item.kind ++ needed_by_value ds (option_map initial_of g.item.initial))
       (both_below (length ds) (needed_by_type ds g.item.kind) (needed_by_value ds (option_map initial_of g.item.initial)) (type_below g.item.kind) (all_below_for (named_in_value (option_map initial_of g.item.initial))))
   needed_below (an_interface n) = none_below (length ds)
   needed_below (a_class c) = none_below (length ds)

@@ -3,7 +3,6 @@
 ghost use Rattle.std.specs.Prelude.{◌≡◌, IfOk};
 ghost use Rattle.st_tree.specs.Expression.{expression_of};
 ghost use Rattle.declared_names.specs.WrittenTypes as written;
-ghost use Rattle.written_types.specs.Outcome.{outcome};
 ghost use Rattle.type_rules.specs.Private.Bounds.{bound_found, lies_above, IsBound, BoundChecks, IsDimension, DimensionChecks};
 
 use initial_rules::constant_faults::{Constant, check_constant};

@@ -5,10 +5,9 @@ ghost use Rattle.st_rules.specs.Calls as calls;
 ghost use Rattle.st_rules.specs.Classes.{methods_in};
 ghost use Rattle.st_rules.specs.Interfaces.{interfaces_in};
 ghost use Rattle.declared_names.specs.UnitNames as unit_names;
-ghost use Rattle.constant_values.specs.ValueLaws.{ValuesHaveTypes};
 ghost use Rattle.told_laws.specs.ToldLaws.{Every, TellsKind};
 ghost use Rattle.told_locals.specs.Around.{IsAround, scope_around};
-ghost use Rattle.unit_names.specs.Private.Known.{IsKnown, decls_of, names_of, scope_in, within};
+ghost use Rattle.unit_names.specs.Private.Known.{IsKnown, decls_of, names_of, within};
 
 use crate::known::{Known, around};
 use plc_series::Series;
