@@ -5,7 +5,7 @@ use Rattle.st_rules.specs.declared.asked.Asked.{Asked}
 use Rattle.st_rules.specs.Faults.{least}
 use Rattle.st_rules.specs.Scope.{Scope}
 use Rattle.st_rules.specs.Expressions.{type_of, typed}
-use Rattle.declared_names.specs.Constants.{constant_faults, constant_value}
+use Rattle.declared_names.specs.Constants.{if_none, value_faults, constant_faults, constant_value}
 use Rattle.constant_values.specs.Outcome.{outcome}
 use Rattle.constant_faults.specs.declared.faults.Constant.{Constant}
 
@@ -14,3 +14,4 @@ pub record IsConstant (c : Constant) (s : Scope) (asked : Asked) (e : Expression
   pub least : c.least ≡ least (constant_faults s asked e)
   pub tree : expression_of c.tree ≡ typed s asked e
   pub value : outcome c.value ≡ constant_value s asked e
+  pub number : c.number ≡ if_none (value_faults s asked e) (constant_value s asked e)

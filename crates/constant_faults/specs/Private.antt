@@ -2,3 +2,4 @@
 pub mod Rows
 pub mod Operands
 pub mod Leaves
+pub mod Found

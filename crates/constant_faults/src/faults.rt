@@ -2,12 +2,12 @@
 
 ghost use Rattle.std.specs.Prelude.{◌≡◌, IfOk};
 ghost use Rattle.st_tree.specs.Expression.{expression_of};
-ghost use Rattle.st_rules.specs.Faults as faults;
-ghost use Rattle.st_rules.specs.Faults.{least};
+ghost use Rattle.st_rules.specs.Faults.{earlier, least};
 ghost use Rattle.st_rules.specs.Scope.{Scope as AScope};
 ghost use Rattle.declared_names.specs.Constants as constants;
 ghost use Rattle.constant_values.specs.Outcome.{outcome};
 ghost use Rattle.constant_faults.specs.Faults.{IsConstant};
+ghost use Rattle.constant_faults.specs.Private.Found.{number_found, own_least};
 
 use crate::valued::Valued;
 use crate::walk::evaluate;
@@ -15,8 +15,9 @@ use constant_rules::constant_part_fault;
 use constant_rules::st_scope::Scope;
 use constant_values::Outcome;
 use plc_text::{Code, NoMemory};
-use st_check_expr::check_whole;
-use st_check_expr::st_expr_parts::Checked;
+use st_check_expr::check;
+use st_check_expr::st_calls::value_fault;
+use st_check_expr::st_expr_parts::{Checked, line_of, operators_fault};
 use st_rules::{Asked, at, earlier};
 use st_tree::{Expr, Note};
 use st_types::StType;
@@ -31,6 +32,8 @@ pub struct Constant {
     pub least: Option<(Code, u32)>,
     pub tree: Expr<Note>,
     pub value: Outcome,
+    /// The number that it comes to, where no rule is broken but the limit of operators.
+    pub number: Option<i128>,
 }
 
 /// E13 where a zero divisor ends the value.
@@ -53,20 +56,57 @@ fn value_at(alloc: Global, s: &Scope<'_>, e: &Expr<u32>, asked: &Asked) -> Resul
     Ok(value)
 }
 
-/// What is found out: from the typed tree, the parts that are no constants, and the value.
-fn constant_by(x: Checked, of_parts: Option<(Code, u32)>, value: Outcome) -> Constant
+/// The number, where no rule is broken.
+fn number_of(least: Option<(Code, u32)>, value: Outcome) -> Option<i128>
+    ensures { result ≡ number_found least (outcome value) }
+{
+    if least.is_some() {
+        return None;
+    }
+    match value {
+        Outcome::Number(z) => Some(z),
+        Outcome::DividesByZero(_) => None,
+        Outcome::Untold => None,
+    }
+}
+
+/// What an expression breaks as a value, in its parts, and by a zero divisor.
+fn own_fault(
+    least: Option<(Code, u32)>,
+    of_value: Option<(Code, u32)>,
+    of_parts: Option<(Code, u32)>,
+    value: Outcome,
+) -> Option<(Code, u32)>
+    ensures { (s : AScope) → result ≡ own_least s least of_value of_parts (outcome value) }
+{
+    let first = earlier(least, of_value);
+    let second = earlier(first, of_parts);
+    earlier(second, divisor_fault(value))
+}
+
+/// What is found out: from the typed tree, what the value, the parts that are no constants, and the number of operators break, and what
+/// the expression comes to.
+fn constant_by(
+    x: Checked,
+    of_value: Option<(Code, u32)>,
+    of_parts: Option<(Code, u32)>,
+    of_operators: Option<(Code, u32)>,
+    value: Outcome,
+) -> Constant
     ensures told { result.told ≡ x.told }
-    ensures least { (s : AScope) → result.least ≡ faults.earlier (faults.earlier x.least of_parts) (least (constants.zero_divisor s (outcome value))) }
+    ensures least { (s : AScope) → result.least ≡ earlier (own_least s x.least of_value of_parts (outcome value)) of_operators }
     ensures tree { result.tree ≡ x.tree }
     ensures value { result.value ≡ value }
+    ensures number { (s : AScope) → result.number ≡ number_found (own_least s x.least of_value of_parts (outcome value)) (outcome value) }
 {
-    let found = earlier(earlier(x.least, of_parts), divisor_fault(value));
+    let own = own_fault(x.least, of_value, of_parts, value);
     let (told, _, tree) = x.into_parts();
     Constant {
         told,
-        least: found,
+        least: earlier(own, of_operators),
         tree,
         value,
+        number: number_of(own, value),
     }
 }
 
@@ -82,6 +122,7 @@ pub fn check_constant(
 {
     let value = value_at(alloc, s, e, asked)?;
     let of_parts = constant_part_fault(s, e);
-    let x = check_whole(alloc, s, e, asked)?;
-    Ok(constant_by(x, of_parts, value))
+    let x = check(alloc, s, e, asked)?;
+    let of_value = value_fault(s, line_of(e), asked, &x.told);
+    Ok(constant_by(x, of_value, of_parts, operators_fault(e), value))
 }

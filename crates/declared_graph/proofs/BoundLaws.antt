@@ -1,6 +1,6 @@
 -- Declarations lead to declarations.
 use Rattle.std.proofs.Common.{◌≡◌, ℕ, zero, suc, ◌+◌, ◌<◌, Bool, true, false, List, [], ◌∷◌, ◌++◌, Option, Some, None, map, length, refl, sym, ap, ◌∙◌, arith, nat_eq, subst, ◌⊎◌, inl, inr}
-use Rattle.std.specs.Prelude.{◌&&◌, ◌||◌, filter_map, option_map, option_and_then, slice_get, if◌then◌else◌}
+use Rattle.std.specs.Prelude.{◌&&◌, ◌||◌, flat_map, filter_map, option_map, option_and_then, slice_get, if◌then◌else◌}
 use Rattle.std.proofs.lemmas.Bool.{eqb-true}
 use Rattle.std.proofs.lemmas.Option.{slice_get_within}
 use Rattle.plc_text.specs.Words.{same}
@@ -13,20 +13,18 @@ use Rattle.st_rules.specs.Chains.{is_among}
 use Rattle.st_rules.proofs.Booleans.{false≢true, none≢some, some-same, either}
 use Rattle.st_rules.proofs.LeadsLaws.{IsWithin}
 use Rattle.declared_names.specs.Declarations.{Declaration, an_entry, a_global, an_interface, a_class, a_function, a_program, a_configuration, name_of}
-use Rattle.st_unit_rules.specs.Cycles.{place_from, is_global_or_function, type_place, class_place, constant_place, types_named, names_in_bounds, names_in_value, element_names, base_place, contained_in_body, contained, contained_at, needed_by_type, needed}
+use Rattle.st_unit_rules.specs.Cycles.{Named, alone, before_dot, before_hash, named_in_bounds, named_in_value, place_from, is_global_or_function, type_place, class_place, constant_place, types_named, element_names, base_place, contained_in_body, contained, contained_at, needed_for, needed_by_type, needed_by_value, needed_by_body, needed, needed_at}
 use Rattle.declared_graph.specs.Private.Known.{constant_if}
 use Rattle.declared_graph.specs.Private.Edges.{told, out_at}
-use Rattle.declared_graph.specs.Private.Needed.{needed_by_body, needed_by_item}
 use Rattle.declared_graph.specs.Private.Shared.{AreBelow}
 use Rattle.declared_graph.proofs.PlaceLaws.{told_next, constant_is}
-use Rattle.declared_graph.proofs.NeededLaws.{entry_needs}
 
 pub record Below (n : ℕ) (xs : List ℕ) : Type 0 where
   pub below : (k : ℕ) → is_among k xs ≡ true → k < n
 
 -- ---- lists of numbers below a bound
 
-none_below : (n : ℕ) → Below n []
+pub none_below : (n : ℕ) → Below n []
 none_below n = record { below = λ k h. absurd (false≢true h) }
 
 among_append : (k : ℕ) (xs ys : List ℕ) → is_among k (xs ++ ys) ≡ true → (is_among k xs ≡ true) ⊎ (is_among k ys ≡ true)
@@ -54,6 +52,10 @@ told_below n (Some i) h = record { below = λ k m. elim (either (nat_eq k i) fal
 pub named_below : (n : ℕ) (f : List ℕ → Option ℕ) → ((name : List ℕ) (k : ℕ) → f name ≡ Some k → k < n) → (names : List (List ℕ)) → Below n (filter_map f names)
 named_below n f h [] = none_below n
 named_below n f h (name ∷ names) = subst (λ (xs : List ℕ). Below n xs) (told_next f name names) (both_below n (told (f name)) (filter_map f names) (told_below n (f name) (h name)) (named_below n f h names))
+
+pub flat_below : {X : Type 0} (n : ℕ) (f : X → List ℕ) → ((x : X) → Below n (f x)) → (xs : List X) → Below n (flat_map f xs)
+flat_below n f h [] = none_below n
+flat_below n f h (x ∷ xs) = both_below n (f x) (flat_map f xs) (h x) (flat_below n f h xs)
 
 -- ---- places
 
@@ -127,8 +129,16 @@ module _ (ds : List Declaration) where
 
   -- ---- need
 
+  for_below : (n : Named) → Below (length ds) (needed_for ds n)
+  for_below (alone name) = constants_below (name ∷ [])
+  for_below (before_dot name) = both_below (length ds) (filter_map (constant_place ds) (name ∷ [])) (types_named ds (name ∷ [])) (constants_below (name ∷ [])) (types_below (name ∷ []))
+  for_below (before_hash l name) = types_below (name ∷ [])
+
+  all_below_for : (ns : List Named) → Below (length ds) (flat_map (needed_for ds) ns)
+  all_below_for ns = flat_below (length ds) (needed_for ds) for_below ns
+
   type_below : (t : TypeSpec ℕ) → Below (length ds) (needed_by_type ds t)
-  type_below t = both_below (length ds) (types_named ds (element_names t.element)) (filter_map (constant_place ds) (names_in_bounds t)) (types_below (element_names t.element)) (constants_below (names_in_bounds t))
+  type_below t = both_below (length ds) (types_named ds (element_names t.element)) (flat_map (needed_for ds) (named_in_bounds t)) (types_below (element_names t.element)) (all_below_for (named_in_bounds t))
 
   needed_body_below : (b : TypeBody ℕ) → Below (length ds) (needed_by_body ds b)
   needed_body_below (body.Alias t) = type_below t
@@ -136,15 +146,22 @@ module _ (ds : List Declaration) where
   needed_body_below (body.Structure gs) = none_below (length ds)
 
   needed_below : (d : Declaration) → Below (length ds) (needed ds (Some d))
-  needed_below (an_entry t) = subst (λ (xs : List ℕ). Below (length ds) xs) (entry_needs ds t) (needed_body_below t.body)
+  needed_below (an_entry t) = needed_body_below t.body
   needed_below (a_global g) =
-      if_below (length ds) g.written.constant (needed_by_item ds g.item)
-      (both_below (length ds) (needed_by_type ds g.item.kind) (filter_map (constant_place ds) (names_in_value (option_map initial_of g.item.initial))) (type_below g.item.kind) (constants_below (names_in_value (option_map initial_of g.item.initial))))
+      if_below (length ds) g.written.constant (needed_by_type ds g.item.kind ++ needed_by_value ds (option_map initial_of g.item.initial))
+      (both_below (length ds) (needed_by_type ds g.item.kind) (needed_by_value ds (option_map initial_of g.item.initial)) (type_below g.item.kind) (all_below_for (named_in_value (option_map initial_of g.item.initial))))
   needed_below (an_interface n) = none_below (length ds)
   needed_below (a_class c) = none_below (length ds)
   needed_below (a_function f) = none_below (length ds)
   needed_below (a_program p) = none_below (length ds)
   needed_below (a_configuration c) = none_below (length ds)
+
+  needed_there : (i k : ℕ) (o : Option Declaration) → slice_get ds i ≡ o → is_among k (needed ds o) ≡ true → (i < length ds) × (k < length ds)
+  needed_there i k None e h = absurd (false≢true h)
+  needed_there i k (Some d) e h = (slice_get_within ds i d e, (needed_below d).below k h)
+
+  pub needed_within : IsWithin (needed_at ds) (length ds)
+  needed_within = record { within = λ i k h. needed_there i k (slice_get ds i) refl h }
 
 -- ---- lists of such lists
 

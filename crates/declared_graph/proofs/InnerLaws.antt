@@ -1,5 +1,5 @@
 -- What constants of a class or a routine need, and the marks of those that need themselves.
-use Rattle.std.proofs.Common.{◌≡◌, ℕ, suc, ◌+◌, ◌<◌, ◌≤◌, Bool, true, false, List, [], ◌∷◌, ◌++◌, Option, Some, None, Bor, map, length, get_or, drop, refl, sym, ap, ◌∙◌, arith, add-one, subst}
+use Rattle.std.proofs.Common.{◌≡◌, ℕ, suc, ◌+◌, ◌<◌, ◌≤◌, Bool, true, false, List, [], ◌∷◌, ◌++◌, Option, Some, None, map, length, get_or, drop, refl, sym, ap, ◌∙◌, arith, add-one, subst}
 use Rattle.std.specs.Prelude.{◌&&◌, flat_map, filter_map, slice_get, cond, option_map, if◌then◌else◌}
 use Rattle.std.proofs.lemmas.List.{length-map}
 use Rattle.plc_text.specs.declared.code.Code.{Code}
@@ -15,30 +15,28 @@ use Rattle.st_rules.proofs.FaultLaws.{earlier-assoc, earlier-none, least-append}
 use Rattle.st_rules.proofs.ListLaws.{drop-at, drop-end}
 use Rattle.declared_names.specs.Variables.{Written, sections_written}
 use Rattle.declared_names.specs.Declarations.{item_line}
-use Rattle.st_unit_rules.specs.Cycles.{names_in_bounds, names_in_value, inner_place, inner_needed, inner_cycles, lies_on_cycle}
+use Rattle.st_unit_rules.specs.Cycles.{Named, alone, before_dot, before_hash, named_in_bounds, named_in_value, inner_from, inner_place, inner_for, inner_needed, inner_cycles, lies_on_cycle}
 use Rattle.graph_cycles.specs.declared.graph.Edge.{Edge}
 use Rattle.graph_cycles.specs.Graph.{AreWithin, marked}
 use Rattle.declaration_list.specs.declared.written.WrittenName.{WrittenName}
 use Rattle.declaration_list.specs.Written.{global_of, written_of, names_in_sections}
 use Rattle.declaration_list.proofs.GlobalLaws.{written_by_names}
 use Rattle.declared_graph.specs.Private.Edges.{edges_from, out_at, told}
-use Rattle.declared_graph.specs.Private.Names.{texts_of}
-use Rattle.declared_graph.specs.Private.Inner.{InnerTable, inner_constant, inner_from, flat, inner_found, IsPut, IsInnerTable, is_first_name, named_by, needed_by_item, needed_of, marked_fault, marked_faults, OnCycles}
+use Rattle.declared_graph.specs.declared.names.Named.{Named as Lent}
+use Rattle.declared_graph.specs.Private.Names.{all_named}
+use Rattle.declared_graph.specs.Private.Inner.{InnerTable, inner_constant, flat, inner_found, IsPut, IsInnerTable, is_first_name, found_for, found_for_lent, needed_by_item, needed_of, marked_fault, marked_faults, OnCycles}
 use Rattle.declared_graph.specs.Private.Shared.{hub_outs, Shares, AreBelow, IsShared}
-use Rattle.declared_graph.proofs.BoundLaws.{Below, named_below, if_below, all_below}
+use Rattle.declared_graph.proofs.BoundLaws.{Below, none_below, named_below, flat_below, if_below, all_below}
 use Rattle.declared_graph.proofs.CycleLaws.{cycle_same}
 use Rattle.declared_graph.proofs.GraphLaws.{out_is, hub_edges_are}
 use Rattle.declared_graph.proofs.HubLaws.{hubs_within}
-use Rattle.declared_graph.proofs.PlaceLaws.{told_next}
+use Rattle.declared_graph.proofs.NeededLaws.{by_lent}
+use Rattle.declared_graph.proofs.PlaceLaws.{told_one}
 use Rattle.declared_graph.proofs.SharedLaws.{names_share}
 
 module _ (table : InnerTable) where
-  constants_are : (ns : List (Bor (List ℕ))) → flat_map (named_by table) ns ≡ filter_map (inner_found table) (texts_of ns)
-  constants_are [] = refl
-  constants_are (n ∷ ns) = ap (λ ys. named_by table n ++ ys) (constants_are ns) ∙ told_next (inner_found table) n.now (texts_of ns)
-
-  pub item_needs : (item : Item ℕ) (ns : List (Bor (List ℕ))) → texts_of ns ≡ names_in_bounds item.kind ++ names_in_value (option_map initial_of item.initial) → flat_map (named_by table) ns ≡ needed_by_item table item
-  item_needs item ns e = constants_are ns ∙ ap (filter_map (inner_found table)) e
+  pub item_needs : (item : Item ℕ) (ns : List Lent) → all_named ns ≡ named_in_bounds item.kind ++ named_in_value (option_map initial_of item.initial) → flat_map (found_for_lent table) ns ≡ needed_by_item table item
+  item_needs item ns e = by_lent (found_for table) ns ∙ ap (flat_map (found_for table)) e
 
 -- ---- the table
 
@@ -75,19 +73,21 @@ from_below name i (w ∷ ws) k e = of (λ h. from_below name (suc i) ws k h) (sa
     of r true false h = absurd (none≢some h)
     of r false c h = let l : k < suc i + length ws = r h in omega arith
 
-inner_is : (ws : List Written) (name : List ℕ) → inner_place ws name ≡ inner_from name 0 ws
-inner_is ws name = refl
+one_same : (f g : List ℕ → Option ℕ) → ((n : List ℕ) → f n ≡ g n) → (n : List ℕ) → filter_map f (n ∷ []) ≡ filter_map g (n ∷ [])
+one_same f g h n = sym (told_one f n) ∙ ap told (h n) ∙ told_one g n
 
-mapped_same : (f g : List ℕ → Option ℕ) → ((n : List ℕ) → f n ≡ g n) → (ns : List (List ℕ)) → filter_map f ns ≡ filter_map g ns
+mapped_same : (f g : Named → List ℕ) → ((n : Named) → f n ≡ g n) → (ns : List Named) → flat_map f ns ≡ flat_map g ns
 mapped_same f g h [] = refl
-mapped_same f g h (n ∷ ns) = sym (told_next f n ns) ∙ ap (λ o. told o ++ filter_map f ns) (h n) ∙ ap (λ ys. told (g n) ++ ys) (mapped_same f g h ns) ∙ told_next g n ns
+mapped_same f g h (n ∷ ns) = ap (λ xs. xs ++ flat_map f ns) (h n) ∙ ap (λ ys. g n ++ ys) (mapped_same f g h ns)
 
 module _ (table : InnerTable) (ws : List Written) (t : IsInnerTable table ws) where
-  found_is : (n : List ℕ) → inner_found table n ≡ inner_place ws n
-  found_is n = t.finds n ∙ sym (inner_is ws n)
+  for_is : (n : Named) → found_for table n ≡ inner_for ws n
+  for_is (alone name) = one_same (inner_found table) (inner_place ws) t.finds name
+  for_is (before_dot name) = one_same (inner_found table) (inner_place ws) t.finds name
+  for_is (before_hash l name) = refl
 
-  item_is : (item : Item ℕ) → needed_by_item table item ≡ filter_map (inner_place ws) (names_in_bounds item.kind ++ names_in_value (option_map initial_of item.initial))
-  item_is item = mapped_same (inner_found table) (inner_place ws) found_is (names_in_bounds item.kind ++ names_in_value (option_map initial_of item.initial))
+  item_is : (item : Item ℕ) → needed_by_item table item ≡ flat_map (inner_for ws) (named_in_bounds item.kind ++ named_in_value (option_map initial_of item.initial))
+  item_is item = mapped_same (found_for table) (inner_for ws) for_is (named_in_bounds item.kind ++ named_in_value (option_map initial_of item.initial))
 
   both : (a b : Bool) (xs ys : List ℕ) → xs ≡ ys → (if a && b then xs else []) ≡ (if a then (if b then ys else []) else [])
   both true true xs ys e = e
@@ -104,14 +104,19 @@ module _ (table : InnerTable) (ws : List Written) (t : IsInnerTable table ws) wh
   place_below : (name : List ℕ) (k : ℕ) → inner_found table name ≡ Some k → k < length ws
   place_below name k e = let r : k < 0 + length ws = from_below name 0 ws k (sym (t.finds name) ∙ e) in omega arith
 
-  needs_below : (w : WrittenName) → Below (length ws) (needed_of table w)
-  needs_below w = if_below (length ws) (w.first && (written_of w).constant) (needed_by_item table w.item.now) (named_below (length ws) (inner_found table) place_below (names_in_bounds w.item.now.kind ++ names_in_value (option_map initial_of w.item.now.initial)))
+  for_below : (n : Named) → Below (length ws) (found_for table n)
+  for_below (alone name) = named_below (length ws) (inner_found table) place_below (name ∷ [])
+  for_below (before_dot name) = named_below (length ws) (inner_found table) place_below (name ∷ [])
+  for_below (before_hash l name) = none_below (length ws)
 
-  inner_below : (name : List ℕ) (k : ℕ) → inner_place ws name ≡ Some k → k < length ws
-  inner_below name k e = let r : k < 0 + length ws = from_below name 0 ws k (sym (inner_is ws name) ∙ e) in omega arith
+  needs_below : (w : WrittenName) → Below (length ws) (needed_of table w)
+  needs_below w = if_below (length ws) (w.first && (written_of w).constant) (needed_by_item table w.item.now) (flat_below (length ws) (found_for table) for_below (named_in_bounds w.item.now.kind ++ named_in_value (option_map initial_of w.item.now.initial)))
+
+  inner_for_below : (n : Named) → Below (length ws) (inner_for ws n)
+  inner_for_below n = subst (Below (length ws)) (for_is n) (for_below n)
 
   gives_below : (w : Written) → Below (length ws) (inner_needed ws (Some w))
-  gives_below w = if_below (length ws) w.constant (filter_map (inner_place ws) (names_in_bounds w.item.kind ++ names_in_value (option_map initial_of w.item.initial))) (named_below (length ws) (inner_place ws) inner_below (names_in_bounds w.item.kind ++ names_in_value (option_map initial_of w.item.initial)))
+  gives_below w = if_below (length ws) w.constant (flat_map (inner_for ws) (named_in_bounds w.item.kind ++ named_in_value (option_map initial_of w.item.initial))) (flat_below (length ws) (inner_for ws) inner_for_below (named_in_bounds w.item.kind ++ named_in_value (option_map initial_of w.item.initial)))
 
 -- ---- marks
 

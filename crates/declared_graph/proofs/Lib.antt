@@ -8,5 +8,6 @@ pub mod InnerLaws
 pub mod LoopLaws
 pub mod NameLaws
 pub mod NeededLaws
+pub mod OwnLaws
 pub mod PlaceLaws
 pub mod SharedLaws

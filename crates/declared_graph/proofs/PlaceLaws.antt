@@ -15,7 +15,7 @@ told_next f n ns = of (f n) refl
     of None e = simp (e)
     of (Some i) e = simp (e)
 
-told_one : (f : List ℕ → Option ℕ) (n : List ℕ) → told (f n) ≡ filter_map f (n ∷ [])
+pub told_one : (f : List ℕ → Option ℕ) (n : List ℕ) → told (f n) ≡ filter_map f (n ∷ [])
 told_one f n = of (f n) refl
   where
     of : (o : Option ℕ) → f n ≡ o → told (f n) ≡ filter_map f (n ∷ [])
@@ -27,6 +27,9 @@ told_type ds n = told_one (type_place ds) n
 
 pub told_class : (ds : List Declaration) (n : List ℕ) → told (class_place ds n) ≡ filter_map (class_place ds) (n ∷ [])
 told_class ds n = told_one (class_place ds) n
+
+pub told_constant : (ds : List Declaration) (n : List ℕ) → told (constant_place ds n) ≡ filter_map (constant_place ds) (n ∷ [])
+told_constant ds n = told_one (constant_place ds) n
 
 -- ---- constants
 

@@ -7,12 +7,14 @@ ghost use Rattle.declared_names.specs.Variables.{sections_written};
 ghost use Rattle.st_unit_rules.specs.Cycles as cycles;
 ghost use Rattle.declaration_list.specs.Written.{global_of, written_of, names_in_sections};
 ghost use Rattle.declared_graph.specs.Private.Edges.{edges_to, edges_from};
-ghost use Rattle.declared_graph.specs.Private.Inner.{inner_found, inner_constant, named_by, IsInnerTable, IsPut, is_first_name, needed_by_item, needed_of, marked_fault as own_marked_fault, marked_faults, OnCycles};
+ghost use Rattle.declared_graph.specs.Private.Names.{named_as};
+ghost use Rattle.declared_graph.specs.Private.Inner.{inner_found, inner_constant, found_for, found_for_lent, IsInnerTable, IsPut, is_first_name, needed_by_item, needed_of, marked_fault as own_marked_fault, marked_faults, OnCycles};
 
 use crate::edges::add_edge;
 use crate::graph::is_marked;
 use crate::hubs::{cycles_by_hubs, hub_edges, hub_node};
-use crate::names::item_names;
+use crate::names::Named;
+use crate::texts::item_names;
 use declaration_list::{WrittenName, item_line};
 use graph_cycles::Edge;
 use plc_text::{Code, NoMemory, Text};
@@ -60,17 +62,34 @@ fn constant_named(table: &Constants, name: &Text) -> Option<usize>
     }
 }
 
-/// Adds edges to the constants that the names mean.
-fn add_constants(
+/// Adds edges to the constant that a name may mean.
+#[tactic(auto, using(crate::proofs::PlaceLaws::told_one))]
+fn add_named(
     table: &Constants,
     edges: &mut Vec<Edge>,
     from: usize,
-    names: &[&Text],
+    named: &Named<'_>,
 ) -> Result<(), NoMemory>
-    ensures { OnOk result (edges.new.items ≡ edges.old.items ++ edges_to from (flat_map (named_by table.now) names.now)) }
+    ensures { OnOk result (edges.new.items ≡ edges.old.items ++ edges_to from (found_for table.now (named_as named.now))) }
 {
-    for name in names {
-        add_edge(edges, from, constant_named(table, *name))?;
+    match named {
+        Named::Alone(name) => add_edge(edges, from, constant_named(table, *name))?,
+        Named::BeforeDot(name) => add_edge(edges, from, constant_named(table, *name))?,
+        Named::BeforeHash(_, _) => {}
+    }
+    Ok(())
+}
+
+fn add_names(
+    table: &Constants,
+    edges: &mut Vec<Edge>,
+    from: usize,
+    names: &[Named<'_>],
+) -> Result<(), NoMemory>
+    ensures { OnOk result (edges.new.items ≡ edges.old.items ++ edges_to from (flat_map (found_for_lent table.now) names.now)) }
+{
+    for named in names {
+        add_named(table, edges, from, named)?;
     }
     Ok(())
 }
@@ -86,7 +105,7 @@ fn add_item(
     ensures { OnOk result (edges.new.items ≡ edges.old.items ++ edges_to from (needed_by_item table.now item.now)) }
 {
     let names = item_names(alloc, item)?;
-    add_constants(table, edges, from, &names)?;
+    add_names(table, edges, from, &names)?;
     Ok(())
 }
 

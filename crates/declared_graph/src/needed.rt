@@ -5,31 +5,54 @@ ghost use Rattle.st_unit_rules.specs.Cycles as cycles;
 ghost use Rattle.declaration_list.specs.Written.{global_of};
 ghost use Rattle.declared_graph.specs.Private.Known.{declared, AreTables};
 ghost use Rattle.declared_graph.specs.Private.Edges.{edges_to, edges_from};
-ghost use Rattle.declared_graph.specs.Private.Needed.{constant_of, needed_by_item, needed_by_body, needed_by_global, needed_of, is_first_of};
+ghost use Rattle.declared_graph.specs.Private.Names.{named_as};
+ghost use Rattle.declared_graph.specs.Private.Needed.{needed_for_lent, needed_by_item, needed_by_global, needed_of, is_first_of};
 
 use crate::contained::add_element;
 use crate::edges::add_edge;
 use crate::hubs::hub_node;
 use crate::known::Known;
-use crate::names::{bound_names, item_names};
+use crate::names::Named;
+use crate::texts::{bound_names, item_names};
 use declaration_list::{Declared, WrittenName};
 use graph_cycles::Edge;
-use plc_text::{NoMemory, Text};
+use plc_text::NoMemory;
 use st_tree::{Item, TypeBody, TypeSpec};
 use std::alloc::Global;
 
-/// Adds edges to the constants that the names mean.
-fn add_constants(
+/// Adds edges to what a name may mean.
+#[tactic(auto, using(crate::proofs::PlaceLaws::told_type, crate::proofs::PlaceLaws::told_constant))]
+fn add_named(
     known: &Known<'_>,
     edges: &mut Vec<Edge>,
     from: usize,
-    names: &[&Text],
+    named: &Named<'_>,
 ) -> Result<(), NoMemory>
     requires { AreTables known.now }
-    ensures { OnOk result (edges.new.items ≡ edges.old.items ++ edges_to from (flat_map (constant_of (declared known.now)) names.now)) }
+    ensures { OnOk result (edges.new.items ≡ edges.old.items ++ edges_to from (cycles.needed_for (declared known.now) (named_as named.now))) }
 {
-    for name in names {
-        add_edge(edges, from, known.constant_place(*name))?;
+    match named {
+        Named::Alone(name) => add_edge(edges, from, known.constant_place(*name))?,
+        Named::BeforeDot(name) => {
+            add_edge(edges, from, known.constant_place(*name))?;
+            add_edge(edges, from, known.type_place(*name))?
+        }
+        Named::BeforeHash(_, name) => add_edge(edges, from, known.type_place(*name))?,
+    }
+    Ok(())
+}
+
+fn add_names(
+    known: &Known<'_>,
+    edges: &mut Vec<Edge>,
+    from: usize,
+    names: &[Named<'_>],
+) -> Result<(), NoMemory>
+    requires { AreTables known.now }
+    ensures { OnOk result (edges.new.items ≡ edges.old.items ++ edges_to from (flat_map (needed_for_lent (declared known.now)) names.now)) }
+{
+    for named in names {
+        add_named(known, edges, from, named)?;
     }
     Ok(())
 }
@@ -46,7 +69,7 @@ fn add_type(
 {
     let names = bound_names(alloc, spec)?;
     add_element(known, edges, from, &spec.element)?;
-    add_constants(known, edges, from, &names)?;
+    add_names(known, edges, from, &names)?;
     Ok(())
 }
 
@@ -62,7 +85,7 @@ fn add_item(
 {
     let names = item_names(alloc, item)?;
     add_element(known, edges, from, &item.kind.element)?;
-    add_constants(known, edges, from, &names)?;
+    add_names(known, edges, from, &names)?;
     Ok(())
 }
 
@@ -74,7 +97,7 @@ fn add_body(
     body: &TypeBody<u32>,
 ) -> Result<(), NoMemory>
     requires { AreTables known.now }
-    ensures { OnOk result (edges.new.items ≡ edges.old.items ++ edges_to from (needed_by_body (declared known.now) body.now)) }
+    ensures { OnOk result (edges.new.items ≡ edges.old.items ++ edges_to from (cycles.needed_by_body (declared known.now) body.now)) }
 {
     match body {
         TypeBody::Alias(spec) => add_type(alloc, known, edges, from, spec)?,
@@ -108,7 +131,7 @@ fn add_global(
 }
 
 /// Adds edges to what a declaration needs, once for all names of an item.
-#[tactic(auto, using(crate::proofs::NeededLaws::entry_needs, crate::proofs::NeededLaws::global_needs))]
+#[tactic(auto, using(crate::proofs::NeededLaws::global_needs))]
 fn add_needed(
     alloc: Global,
     known: &Known<'_>,

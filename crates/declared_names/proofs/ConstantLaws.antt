@@ -12,7 +12,7 @@ use Rattle.st_rules.specs.declared.names.DeclaredVariable.{DeclaredVariable}
 use Rattle.st_rules.specs.Faults.{Faults}
 use Rattle.st_rules.specs.Signatures.{is_parameter_sort}
 use Rattle.st_rules.specs.Scope.{Scope, is_instance_sort, is_body_sort}
-use Rattle.declared_names.specs.Constants.{Outcome, comes_to, divides_by_zero, cannot_be_told, operated, is_zero, constant_value, constant_faults, if_none, names_are_told, told_value}
+use Rattle.declared_names.specs.Constants.{Outcome, comes_to, divides_by_zero, cannot_be_told, operated, is_zero, constant_value, value_faults, if_none, names_are_told, told_value}
 use Rattle.declared_names.specs.ConstantLaws.{result_name, ConstantLaws}
 use Rattle.declared_names.specs.Variables.{Written, sections_written, declared_each, local_targets, routine_locals}
 use Rattle.declared_names.specs.UnitNames.{forgotten, told_locals}
@@ -27,9 +27,9 @@ if_told_is : (b : Bool) (fs : Faults) (x : Outcome) (z : ℤ) → (if b then if_
 if_told_is true fs x z h = let q = if_none_is fs x z h in (refl, q.0, q.1)
 if_told_is false fs x z h = cc
 
-told : (s : Scope) (asked : Asked) (e : Expression ℕ) (z : ℤ) → told_value s asked e ≡ Some z → (names_are_told s e ≡ true) × (constant_faults s asked e ≡ []) × (constant_value s asked e ≡ comes_to z)
+told : (s : Scope) (asked : Asked) (e : Expression ℕ) (z : ℤ) → told_value s asked e ≡ Some z → (names_are_told s e ≡ true) × (value_faults s asked e ≡ []) × (constant_value s asked e ≡ comes_to z)
 unfolding told_value
-told s asked e z h = if_told_is (names_are_told s e) (constant_faults s asked e) (constant_value s asked e) z h
+told s asked e z h = if_told_is (names_are_told s e) (value_faults s asked e) (constant_value s asked e) z h
 
 and_skips : (e : Elem) (line : ℕ) (a : ℤ) (x : Outcome) → is_zero a ≡ true → operated operator.AndThen e line (comes_to a) x ≡ comes_to a
 and_skips e line a x h = ap (λ b. if b then comes_to a else x) h

@@ -1,2 +1,3 @@
 pub mod ConstantLaws
 pub use Rattle.st_rules.proofs.ListLaws
+pub mod DimensionLaws

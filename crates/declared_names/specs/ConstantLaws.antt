@@ -7,7 +7,7 @@ use Rattle.st_tree.specs.declared.type_spec.TypeSpec.{TypeSpec}
 use Rattle.st_tree.specs.Expression.{Expression}
 use Rattle.st_rules.specs.declared.asked.Asked.{Asked}
 use Rattle.st_rules.specs.Scope.{Scope}
-use Rattle.declared_names.specs.Constants.{Outcome, comes_to, operated, is_zero, constant_value, constant_faults, names_are_told, told_value}
+use Rattle.declared_names.specs.Constants.{Outcome, comes_to, operated, is_zero, constant_value, value_faults, names_are_told, told_value}
 use Rattle.declared_names.specs.Variables.{sections_written, routine_locals}
 use Rattle.declared_names.specs.UnitNames.{told_locals}
 
@@ -17,8 +17,8 @@ result_name name None = []
 result_name name (Some t) = name ∷ []
 
 pub record ConstantLaws : Type 0 where
-  -- where a value is told, all names are, it breaks no rule, and it is the value
-  pub told : (s : Scope) (asked : Asked) (e : Expression ℕ) (z : ℤ) → told_value s asked e ≡ Some z → (names_are_told s e ≡ true) × (constant_faults s asked e ≡ []) × (constant_value s asked e ≡ comes_to z)
+  -- where a value is told, all names are, it breaks no rule of values, and it is the value
+  pub told : (s : Scope) (asked : Asked) (e : Expression ℕ) (z : ℤ) → told_value s asked e ≡ Some z → (names_are_told s e ≡ true) × (value_faults s asked e ≡ []) × (constant_value s asked e ≡ comes_to z)
   -- where the left operand decides, the right one is not evaluated
   pub and_skips : (e : Elem) (line : ℕ) (a : ℤ) (x : Outcome) → is_zero a ≡ true → operated operator.AndThen e line (comes_to a) x ≡ comes_to a
   pub or_skips : (e : Elem) (line : ℕ) (a : ℤ) (x : Outcome) → is_zero a ≡ false → operated operator.OrElse e line (comes_to a) x ≡ comes_to a

@@ -26,8 +26,8 @@ use Rattle.st_rules.specs.Kinds.{is_arithmetic, operation_type, unary_type, take
 use Rattle.st_rules.specs.Literals.{number_asked, literal_number}
 use Rattle.st_rules.specs.Scope.{Scope, Meant, a_variable, an_enumerator, sought, type_qualifier, dot_qualifier}
 use Rattle.st_rules.specs.Places.{root_line, qualifies}
-use Rattle.st_rules.specs.Calls.{Callee, a_conversion, callee}
-use Rattle.st_rules.specs.Expressions.{is_untyped, front_asked, operand_asked, asked_behind, type_of, note_of_value, whole_target, is_conversion, expression_faults}
+use Rattle.st_rules.specs.Calls.{Callee, a_conversion, callee, value_unsuited}
+use Rattle.st_rules.specs.Expressions.{line_of, is_untyped, front_asked, operand_asked, asked_behind, type_of, note_of_value, whole_target, is_conversion, faults, too_many_operators}
 
 -- what a constant expression comes to
 pub data Outcome : Type 0 where
@@ -213,9 +213,13 @@ module _ (s : Scope) where
   zero_divisor (divides_by_zero l) = at E13 l
   zero_divisor _ = []
 
+  -- what an expression breaks, where a constant is wanted, but for the number of its operators, which leaves its value told
+  abbrev pub value_faults : Asked → Expression ℕ → Faults
+  value_faults asked e = faults s asked e ++ value_unsuited s (line_of e) asked (type_of s asked e) ++ no_constant_part e ++ zero_divisor (constant_value asked e)
+
   -- an expression where a constant is wanted
   unfoldable pub constant_faults : Asked → Expression ℕ → Faults
-  constant_faults asked e = expression_faults s asked e ++ no_constant_part e ++ zero_divisor (constant_value asked e)
+  constant_faults asked e = value_faults asked e ++ too_many_operators e
 
   -- ---- what is told
 
@@ -242,6 +246,6 @@ module _ (s : Scope) where
     arguments_are_told (argument_then (Input l name e) xs) = names_are_told e && arguments_are_told xs
     arguments_are_told (argument_then (Output l name k r ss) xs) = is_told (whole_target s r ss) && arguments_are_told xs
 
-  -- the value where every name is told and no rule is broken
+  -- the value where every name is told and no rule of values is broken
   unfoldable pub told_value : Asked → Expression ℕ → Option ℤ
-  told_value asked e = if names_are_told e then if_none (constant_faults asked e) (constant_value asked e) else None
+  told_value asked e = if names_are_told e then if_none (value_faults asked e) (constant_value asked e) else None

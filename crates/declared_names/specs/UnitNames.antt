@@ -90,6 +90,11 @@ forgotten_names n = record {
 abbrev pub constants_written : List (Section ℕ) → List Written
 constants_written ss = filter (λ w. w.constant) (sections_written ss)
 
+-- what a routine leaves, in the scope of its text
+abbrev pub result_written : Scope → Option (TypeSpec ℕ) → ResultType
+result_written s None = outcome.Nothing
+result_written s (Some t) = outcome.Written (type_written s t)
+
 module _ (s : Scope) where
   -- the locals that `gives` gives from what is told of them, in so many steps
   abbrev pub told_locals : (Scope → List DeclaredVariable) → ℕ → List DeclaredVariable
@@ -104,17 +109,13 @@ module _ (s : Scope) where
   unfoldable pub program_locals : List (Section ℕ) → List DeclaredVariable
   program_locals ss = told_locals (λ t. members_declared t 0 0 ss) (suc (length (constants_written ss)))
 
-  abbrev pub result_written : Option (TypeSpec ℕ) → ResultType
-  result_written None = outcome.Nothing
-  result_written (Some t) = outcome.Written (type_written s t)
-
-  -- a result's type stands where the locals are known
+  -- a result's type is written in the routine, whose constants are seen in it
   abbrev pub routine_declared : List ℕ → List Modifier → Option (TypeSpec ℕ) → List (Section ℕ) → DeclaredRoutine
   routine_declared name modifiers result ss = record {
     name = name;
     access = method_access modifiers;
     abstract_method = is_abstract modifiers;
-    outcome = result_written result;
+    outcome = result_written (record s { locals = locals_of name result ss }) result;
     parameters = filter is_parameter (locals_of name result ss);
   }
 

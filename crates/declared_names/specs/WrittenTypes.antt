@@ -1,6 +1,6 @@
 -- Types as they are written: what they mean, and the rules that they break by themselves (IEC 61131-3:2013, 6.4).
-use Rattle.std.specs.Prelude.{ℕ, zero, suc, nat_lt, ℤ, int_le, Bool, false, not, ◌&&◌, ◌||◌, if◌then◌else◌, List, [], ◌∷◌, ◌++◌, flat_map, Option, Some, None, option_and_then}
-use Rattle.std.specs.Option.{is_none}
+use Rattle.std.specs.Prelude.{ℕ, zero, suc, nat_lt, ℤ, int_le, Bool, false, not, ◌&&◌, if◌then◌else◌, List, [], ◌∷◌, ◌++◌, flat_map, Option, Some, None, option_and_then}
+use Rattle.std.specs.Option.{is_some, is_none}
 use Rattle.plc_text.specs.declared.code.Code.TheVariants.{E05, E07, E13}
 use Rattle.st_types.specs.declared.st_type.StType.{StType}
 use Rattle.st_types.specs.declared.st_type.StType.TheVariants as type
@@ -27,9 +27,16 @@ array_depth t = fold-StType ℕ level t
     level (StType-F.Array low high n) = suc n
     level _ = zero
 
--- An array whose lower bound is above the upper one cannot be told, nor one in which more than 64 others lie within each other.
+-- Of a type with more dimensions than these, the innermost are told.
+abbrev pub dimensions_told : ℕ
+dimensions_told = 66
+
+abbrev pub in_array : ℤ → ℤ → StType → StType
+in_array low high t = if nat_lt (array_depth t) dimensions_told then type.Array low high t else t
+
+-- An array whose lower bound is above the upper one cannot be told.
 abbrev pub array_of : Option ℤ → Option ℤ → Option StType → Option StType
-array_of (Some low) (Some high) (Some t) = if int_le low high then (if nat_lt (array_depth t) 65 then Some (type.Array low high t) else None) else None
+array_of (Some low) (Some high) (Some t) = if int_le low high then Some (in_array low high t) else None
 array_of _ _ _ = None
 
 abbrev pub is_number_type : Option StType → Bool
@@ -83,13 +90,13 @@ module _ (s : Scope) where
   abbrev pub type_not_found : ℕ → List ℕ → Faults
   type_not_found line name = when (is_none (type_declared name)) E05 line
 
-  abbrev pub is_no_instance : Option StType → Bool
-  is_no_instance None = false
-  is_no_instance (Some t) = not (is_instance t)
+  abbrev pub is_instance_told : Option StType → Bool
+  is_instance_told None = false
+  is_instance_told (Some t) = is_instance t
 
-  -- REF_TO takes classes and function blocks
+  -- REF_TO takes the name of a class or a function block, or an alias of one; one that leads to no type at all is none
   abbrev pub reference_to_another_type : ℕ → List ℕ → Faults
-  reference_to_another_type line name = when (is_no_instance (named_type name)) E07 line
+  reference_to_another_type line name = when (is_some (type_declared name) && not (is_instance_told (named_type name))) E07 line
 
   abbrev pub element_faults : SimpleSpec ℕ → Faults
   element_faults (spec.Elementary l e) = []
@@ -98,16 +105,3 @@ module _ (s : Scope) where
 
   unfoldable pub type_faults : TypeSpec ℕ → Faults
   type_faults t = flat_map dimension_faults (dimensions t) ++ element_faults t.element
-
-  -- more arrays in one another than a type may have
-  abbrev pub is_one_more : Option ℤ → Option ℤ → Option StType → Bool
-  is_one_more (Some low) (Some high) (Some t) = int_le low high && not (nat_lt (array_depth t) 65)
-  is_one_more _ _ _ = false
-
-  abbrev pub too_many_arrays : List (Bounds ℕ) → Option StType → Bool
-  too_many_arrays [] t = false
-  too_many_arrays (b ∷ bs) t = is_one_more (bound_value (expression_of b.low)) (bound_value (expression_of b.high)) (arrays_of bs t) || too_many_arrays bs t
-
-  -- more dimensions than a type may have
-  unfoldable pub has_too_many_dimensions : TypeSpec ℕ → Bool
-  has_too_many_dimensions t = too_many_arrays (dimensions t) (element_written t.element)

@@ -2,7 +2,9 @@
 //! the scopes of its texts (IEC 61131-3:2013, 6.4 and 6.5).
 #![tactic(auto)]
 
+mod dimensions;
 mod laws;
 
+pub use dimensions::has_fewer_dimensions;
 pub use laws::constant_laws;
 pub use st_tree;

@@ -41,6 +41,7 @@ fn check_value(
         least,
         tree,
         value,
+        number: _,
     } = c;
     Ok(CheckedInitial {
         least,

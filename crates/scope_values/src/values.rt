@@ -1,15 +1,11 @@
 //! Values in a scope.
 
-ghost use Rattle.std.specs.Prelude.{◌≡◌, ℕ, Some, IfOk};
-ghost use Rattle.st_tree.specs.Expression.{Expression as AnExpression, expression_of};
-ghost use Rattle.st_rules.specs.declared.asked.Asked.{Asked as AnAsked};
+ghost use Rattle.std.specs.Prelude.{◌≡◌, Some, IfOk};
+ghost use Rattle.st_tree.specs.Expression.{expression_of};
 ghost use Rattle.st_rules.specs.Literals.{asked_of};
-ghost use Rattle.st_rules.specs.Scope.{Scope as AScope};
 ghost use Rattle.declared_names.specs.Constants as constants;
-ghost use Rattle.constant_faults.specs.Faults.{IsConstant};
 
-use constant_faults::{Constant, check_constant};
-use constant_values::Outcome;
+use constant_faults::check_constant;
 use initial_worths::ConstantValues;
 use plc_text::NoMemory;
 use st_operators::asked_of;
@@ -26,21 +22,7 @@ pub struct ScopeValues<'a> {
     pub scope: &'a Scope<'a>,
 }
 
-/// The value, where no rule is broken.
-fn found_value(constant: &Constant) -> Option<i128>
-    ensures { (s : AScope) (asked : AnAsked) (e : AnExpression ℕ) → IsConstant constant.now s asked e → result ≡ constants.if_none (constants.constant_faults s asked e) (constants.constant_value s asked e) }
-{
-    if constant.least.is_some() {
-        return None;
-    }
-    match constant.value {
-        Outcome::Number(z) => Some(z),
-        Outcome::DividesByZero(_) => None,
-        Outcome::Untold => None,
-    }
-}
-
-/// The value of an expression where a value of the type stands, if all its names are told and it breaks no rule.
+/// The value of an expression where a value of the type stands, if all its names are told and it breaks no rule but the limit of operators.
 fn told_value(
     alloc: Global,
     s: &Scope<'_>,
@@ -55,8 +37,7 @@ fn told_value(
     let wanted = kind.copy(alloc)?;
     let asked = asked_of(Some(wanted));
     let constant = check_constant(alloc, s, e, &asked)?;
-    let value = found_value(&constant);
-    Ok(value)
+    Ok(constant.number)
 }
 
 impl ConstantValues for ScopeValues<'_> {

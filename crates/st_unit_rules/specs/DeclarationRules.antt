@@ -1,6 +1,5 @@
 -- The rules that each declaration of a unit breaks, all of them (IEC 61131-3:2013, 6.4 to 6.8).
-use Rattle.std.specs.Prelude.{ℕ, suc, pos, Bool, true, false, not, ◌&&◌, ◌||◌, if◌then◌else◌, List, [], ◌∷◌, ◌++◌, map, flat_map, filter, length, Option, Some, None, option_map}
-use Rattle.std.specs.List.{list_any}
+use Rattle.std.specs.Prelude.{ℕ, suc, ◌-◌, pos, Bool, true, false, not, ◌&&◌, if◌then◌else◌, List, [], ◌∷◌, ◌++◌, map, flat_map, filter, length, Option, Some, None, option_map}
 use Rattle.std.specs.Option.{is_none}
 use Rattle.plc_text.specs.declared.code.Code.TheVariants.{E05, E16}
 use Rattle.st_types.specs.declared.st_type.StType.TheVariants as type
@@ -42,15 +41,15 @@ use Rattle.st_rules.specs.Signatures.{signature}
 use Rattle.st_rules.specs.Statements.{body_faults}
 use Rattle.st_unit_rules.specs.Addresses.{Bits, variable_bits, all_bits, bits_shared}
 use Rattle.st_unit_rules.specs.ConfigurationRules.{second_configuration, tasks_and_instances}
-use Rattle.st_unit_rules.specs.Cycles.{cycle_faults, inner_cycles, leads_to_cycle}
+use Rattle.st_unit_rules.specs.Cycles.{cycle_faults, inner_cycles, leads_to_cycle, own_values}
 use Rattle.declared_names.specs.Declarations.{Declaration, an_entry, a_global, an_interface, a_class, a_function, a_program, a_configuration, Global, Region, of_global, of_instance, Placed, declarations, configuration_globals, region_of_global, is_class, is_interface, is_entry, is_configuration, is_first_configuration, number_among, entries_in, programs_in, name_of, item_line_of, item_line, heading_line}
 use Rattle.st_unit_rules.specs.Initials.{initial_faults}
-use Rattle.st_unit_rules.specs.Limits.{too_many_declarations, too_many_classes, too_many_regions, too_many_values, too_many_methods, too_many_parameters, too_many_locals, too_many_bases, too_many_interfaces_above, has_depth, too_deep, values_of, all_values, sum_of}
+use Rattle.st_unit_rules.specs.Limits.{too_many_declarations, too_many_classes, too_many_regions, too_many_values, too_many_methods, too_many_parameters, too_many_locals, too_many_bases, too_many_interfaces_above, most_steps, is_too_deep, too_deep, variable_too_deep, values_of, all_values, sum_of}
 use Rattle.st_unit_rules.specs.NameRules.{declared_before, name_of_conversion, space_faults, local_name_faults, member_name_faults, part_names, section_names, prototype_name_faults, configuration_name_faults, word_twice}
 use Rattle.declared_names.specs.UnitNames.{unit_names, unit_scope, class_scope, method_scope, function_scope, prototype_scope, program_scope}
 use Rattle.st_unit_rules.specs.VariableRules.{Home, of_class, of_block, of_program, of_routine, of_prototype, of_globals, instance_out_of_place, heading_faults, item_faults, sections_faults, result_faults}
 use Rattle.declared_names.specs.Variables.{sections_written, sections_in, is_parameter_written, is_kept_written, is_body_written}
-use Rattle.declared_names.specs.WrittenTypes.{type_written, type_faults, has_too_many_dimensions}
+use Rattle.declared_names.specs.WrittenTypes.{type_written, type_faults}
 use Rattle.st_unit_rules.specs.Worth.{Worth, a_number, worth_of, same_worth}
 
 -- the items of sections
@@ -92,17 +91,17 @@ module _ (decls : List (Decl ℕ)) where
   -- ---- routines: methods, methods of interfaces, functions
 
   abbrev pub item_too_deep : Scope → Item ℕ → Faults
-  item_too_deep s item = too_deep s (declarations decls) 64 (item_line item) item.kind
+  item_too_deep s item = variable_too_deep s (declarations decls) most_steps (item_line item) item.kind
 
   abbrev pub result_too_deep : Scope → ℕ → Option (TypeSpec ℕ) → Faults
   result_too_deep s line None = []
-  result_too_deep s line (Some t) = too_deep s (declarations decls) 64 line t
+  result_too_deep s line (Some t) = variable_too_deep s (declarations decls) most_steps line t
 
-  -- the limits of parameters, at the heading, but the depth of each variable at its item
+  -- the limits of parameters, at the heading, but the depth of each variable at its item; externals are no locals
   abbrev pub parameter_limits : Scope → ℕ → Option (TypeSpec ℕ) → List (Section ℕ) → Faults
   parameter_limits s line result sections =
       too_many_parameters line (count_parameters sections)
-      ++ flat_map (item_too_deep s) (items_in sections)
+      ++ flat_map (item_too_deep s) (items_in (filter (λ x. not (is_external x.sort)) sections))
       ++ result_too_deep s line result
 
   abbrev pub local_limits : Scope → ℕ → Faults
@@ -143,15 +142,14 @@ module _ (decls : List (Decl ℕ)) where
   group_faults g = type_faults unit g.kind ++ instance_out_of_place (item_line_of g.names) false (type_written unit g.kind) ++ field_given g g.initial
 
   abbrev pub body_depth : ℕ → ℕ → ℕ → TypeBody ℕ → Faults
-  body_depth line i n (body.Alias t) = too_deep unit (declarations decls) 64 line t
+  body_depth line i n (body.Alias t) = too_deep unit (declarations decls) most_steps line t
   body_depth line i n (body.Enumeration ns) = []
-  body_depth line i n (body.Structure gs) =
-      when ((has_depth unit 65 (type.Structure n) || list_any (λ g. has_too_many_dimensions unit g.kind) gs) && not (leads_to_cycle (declarations decls) i)) E16 line
+  body_depth line i n (body.Structure gs) = when (is_too_deep unit (type.Structure n) && not (leads_to_cycle (declarations decls) i)) E16 line
 
-  abbrev pub type_body_faults : TypeBody ℕ → Faults
-  type_body_faults (body.Alias t) = type_faults unit t
-  type_body_faults (body.Enumeration ns) = []
-  type_body_faults (body.Structure gs) = flat_map group_faults gs
+  abbrev pub type_body_faults : List ℕ → TypeBody ℕ → Faults
+  type_body_faults name (body.Alias t) = type_faults unit t ++ own_values name t
+  type_body_faults name (body.Enumeration ns) = []
+  type_body_faults name (body.Structure gs) = flat_map group_faults gs
 
   -- ---- classes and function blocks
 
@@ -170,8 +168,7 @@ module _ (decls : List (Decl ℕ)) where
   body_locals s c = filter is_of_body (flat_map (variables_of s) (chain s.classes c))
 
   abbrev pub class_too_deep : Scope → ℕ → ℕ → ClassDecl ℕ → Faults
-  class_too_deep s i c d =
-      when ((has_depth s 65 (type.Instance c) || list_any (λ w. has_too_many_dimensions s w.item.kind) (filter is_kept_written (sections_written (sections_in d.members)))) && not (leads_to_cycle (declarations decls) i)) E16 d.line
+  class_too_deep s i c d = when (is_too_deep s (type.Instance c) && not (leads_to_cycle (declarations decls) i)) E16 d.line
 
   -- of its body the class has the limits at its heading, with those of its bases
   abbrev pub class_limits : Scope → ℕ → ℕ → ClassDecl ℕ → Faults
@@ -212,13 +209,11 @@ module _ (decls : List (Decl ℕ)) where
   abbrev pub function_faults : FunctionDecl ℕ → Faults
   function_faults f = local_name_faults f.name.text f.sections ++ routine_faults (function_scope decls names f) of_routine f.line f.name.text f.result f.sections f.body
 
-  -- a program is a step of containment from what its variables hold
+  -- A program is a step of containment from what its variables hold. It is not called: parameters and locals have no limit.
   abbrev pub program_limits : Scope → ProgramDecl ℕ → Faults
   program_limits s p =
       let ws = sections_written p.sections in
-      too_many_parameters p.line (length (filter is_parameter_written ws))
-      ++ too_many_locals p.line (all_values s (filter is_of_body s.locals))
-      ++ flat_map (λ w. too_deep s (declarations decls) 63 p.line w.item.kind) (filter is_kept_written ws)
+      flat_map (λ w. too_deep s (declarations decls) (most_steps - 1) p.line w.item.kind) (filter is_kept_written ws)
       ++ flat_map (λ w. item_too_deep s w.item) (filter is_body_written ws)
 
   abbrev pub program_faults : ProgramDecl ℕ → Faults
@@ -294,7 +289,7 @@ module _ (decls : List (Decl ℕ)) where
   -- ---- all rules of a declaration
 
   abbrev pub sort_faults : ℕ → Placed → Declaration → Faults
-  sort_faults i x (an_entry t) = space_faults (part_names t.body) ++ type_body_faults t.body ++ body_depth t.name.line i (number_among is_entry x) t.body
+  sort_faults i x (an_entry t) = space_faults (part_names t.body) ++ type_body_faults t.name.text t.body ++ body_depth t.name.line i (number_among is_entry x) t.body
   sort_faults i x (a_global g) = global_faults x.regions g
   sort_faults i x (an_interface d) = interface_declaration_faults (number_among is_interface x) d
   sort_faults i x (a_class d) = class_declaration_faults i (number_among is_class x) d ++ too_many_classes d.line (number_among is_class x)

@@ -1,7 +1,7 @@
 -- E16: the limits of what a unit declares: counts, depths and values.
-use Rattle.std.specs.Prelude.{ℕ, zero, suc, ◌+◌, ◌*◌, nat_eq, nat_lt, nat_le, ◌-ℤ◌, Bool, true, false, not, ◌&&◌, ◌||◌, if◌then◌else◌, List, [], ◌∷◌, ◌++◌, map, flat_map, filter, length, Option, Some, None}
+use Rattle.std.specs.Prelude.{ℕ, zero, suc, ◌+◌, ◌*◌, max, nat_eq, nat_lt, nat_le, ◌-ℤ◌, Bool, true, false, not, ◌&&◌, ◌||◌, if◌then◌else◌, List, [], ◌∷◌, ◌++◌, map, flat_map, filter, length, Option, Some, None}
 use Rattle.std.specs.List.{list_any}
-use Rattle.std.specs.Option.{is_none}
+use Rattle.std.specs.Option.{option_to_list}
 use Rattle.plc_text.specs.declared.code.Code.TheVariants.{E16}
 use Rattle.st_types.specs.declared.st_type.StType.{StType, out-StType}
 use Rattle.st_types.specs.declared.st_type.StType.TheOpen.{StType-F}
@@ -11,15 +11,14 @@ use Rattle.st_tree.specs.declared.declaration.SectionSort.{SectionSort}
 use Rattle.st_tree.specs.declared.declaration.SectionSort.TheVariants as sort
 use Rattle.st_tree.specs.declared.type_spec.TypeSpec.{TypeSpec}
 use Rattle.st_rules.specs.declared.names.DeclaredVariable.{DeclaredVariable}
-use Rattle.st_rules.specs.Chains.{leads_within}
 use Rattle.st_rules.specs.Classes.{base_of, chain}
 use Rattle.st_rules.specs.Interfaces.{extended}
 use Rattle.st_rules.specs.Faults.{Faults, when}
 use Rattle.st_rules.specs.Scope.{Scope, is_of_instance, parts_of, field_list, variables_of}
-use Rattle.declared_names.specs.WrittenTypes.{type_written, has_too_many_dimensions}
+use Rattle.declared_names.specs.WrittenTypes.{array_depth, type_written}
 use Rattle.declared_names.specs.Declarations.{Declaration}
 use Rattle.st_unit_rules.specs.Worth.{count_to}
-use Rattle.st_unit_rules.specs.Cycles.{element_names, type_place, leads_to_cycle, lies_on_cycle}
+use Rattle.st_unit_rules.specs.Cycles.{element_names, types_named, leads_to_cycle, lies_on_cycle}
 
 -- ---- counts over the unit: the declaration that passes a limit is bad
 
@@ -53,33 +52,36 @@ too_many_parameters line n = when (nat_lt 32 n) E16 line
 abbrev pub too_many_locals : ℕ → ℕ → Faults
 too_many_locals line values = when (nat_lt 1_024 values) E16 line
 
--- ---- depth of bases and of interfaces
+-- ---- steps: of containment, from a class to its base, from an interface to one that it extends
 
--- the chain ends at a class without a base
-abbrev pub has_top : List (ClassDecl ℕ) → ℕ → Bool
-has_top classes c = list_any (λ b. is_none (base_of classes b)) (chain classes c)
+-- a way has at most so many
+abbrev pub most_steps : ℕ
+most_steps = 64
 
--- more than 64 classes above
+-- a way of so many steps that meets no cycle
+abbrev pub has_way : (ℕ → List ℕ) → ℕ → ℕ → ℕ → Bool
+has_way ahead count zero i = true
+has_way ahead count (suc n) i = list_any (λ k. not (lies_on_cycle ahead count k) && has_way ahead count n k) (ahead i)
+
+-- more steps lead up than may
+abbrev pub too_many_above : ℕ → (ℕ → List ℕ) → ℕ → ℕ → Faults
+too_many_above line ahead count i = when (has_way ahead count (suc most_steps) i) E16 line
+
+abbrev pub bases_of : List (ClassDecl ℕ) → ℕ → List ℕ
+bases_of classes c = option_to_list (base_of classes c)
+
 abbrev pub too_many_bases : ℕ → List (ClassDecl ℕ) → ℕ → Faults
-too_many_bases line classes c = when (has_top classes c && nat_lt 65 (length (chain classes c))) E16 line
+too_many_bases line classes c = too_many_above line (bases_of classes) (length classes) c
 
--- a way of so many steps
-abbrev pub has_way : (ℕ → List ℕ) → ℕ → ℕ → Bool
-has_way ahead zero i = true
-has_way ahead (suc n) i = list_any (has_way ahead n) (ahead i)
-
-abbrev pub numbers_below : ℕ → List ℕ
-numbers_below zero = []
-numbers_below (suc n) = numbers_below n ++ n ∷ []
-
-abbrev pub comes_to_cycle : (ℕ → List ℕ) → ℕ → ℕ → Bool
-comes_to_cycle ahead count i = list_any (λ j. leads_within ahead count i j && lies_on_cycle ahead count j) (numbers_below count)
-
--- more than 64 interfaces above, on the longest way
 abbrev pub too_many_interfaces_above : ℕ → List (InterfaceDecl ℕ) → ℕ → Faults
-too_many_interfaces_above line interfaces i = when (has_way (extended interfaces) 65 i && not (comes_to_cycle (extended interfaces) (length interfaces) i)) E16 line
+too_many_interfaces_above line interfaces i = too_many_above line (extended interfaces) (length interfaces) i
 
 -- ---- types by what they contain
+
+-- arrays of arrays, more than may be
+abbrev pub has_many_dimensions : Option StType → Bool
+has_many_dimensions None = false
+has_many_dimensions (Some t) = nat_lt most_steps (array_depth t)
 
 module _ (s : Scope) where
   abbrev pub kinds_told : List (Option StType) → List StType
@@ -116,21 +118,22 @@ module _ (s : Scope) where
   has_depth_told n None = false
   has_depth_told n (Some t) = has_depth n t
 
-  module _ (ds : List Declaration) where
-    abbrev pub comes_to_cycle_by : Option ℕ → Bool
-    comes_to_cycle_by None = false
-    comes_to_cycle_by (Some i) = leads_to_cycle ds i
+  -- a type of more steps than may be
+  abbrev pub is_too_deep : StType → Bool
+  is_too_deep t = has_depth (suc most_steps) t
 
+  module _ (ds : List Declaration) where
     -- what contains itself, or leads to what does, has no depth
     abbrev pub is_endless : TypeSpec ℕ → Bool
-    is_endless t = list_any (λ name. comes_to_cycle_by (type_place ds name)) (element_names t.element)
+    is_endless t = list_any (leads_to_cycle ds) (types_named ds (element_names t.element))
 
-    -- a written type with more than so many steps of containment
-    abbrev pub is_deeper : ℕ → TypeSpec ℕ → Bool
-    is_deeper n t = has_too_many_dimensions s t || has_depth_told (suc n) (type_written s t) && not (is_endless t)
-
+    -- the written type of an entry of TYPE: more than so many steps of containment
     abbrev pub too_deep : ℕ → ℕ → TypeSpec ℕ → Faults
-    too_deep n line t = when (is_deeper n t) E16 line
+    too_deep n line t = when (has_depth_told (suc n) (type_written s t) && not (is_endless t)) E16 line
+
+    -- that of a variable, a parameter or a result: more dimensions neither
+    abbrev pub variable_too_deep : ℕ → ℕ → TypeSpec ℕ → Faults
+    variable_too_deep n line t = when ((has_many_dimensions (type_written s t) || has_depth_told (suc n) (type_written s t)) && not (is_endless t)) E16 line
 
   -- ---- counted values
 
@@ -138,22 +141,24 @@ module _ (s : Scope) where
   sum_of [] = 0
   sum_of (n ∷ ns) = n + sum_of ns
 
-  -- elementary values, enumerations, references and interface values, and each instance as one more; a structure is its fields
+  -- elementary values, enumerations, references and interface values, and each instance as one more; a structure is its fields, and one
+  -- value where it has none
   abbrev pub level_values : (StType → ℕ) → StType-F StType → ℕ
   level_values f (StType-F.Array low high of) = count_to (high -ℤ low) * f of
-  level_values f (StType-F.Structure n) = sum_of (map f (field_kinds n))
+  level_values f (StType-F.Structure n) = max 1 (sum_of (map f (field_kinds n)))
   level_values f (StType-F.Instance c) = suc (sum_of (map f (variable_kinds c)))
   level_values f t = 1
 
-  -- no type has more than so many steps of containment
+  -- in the first levels of a type, so many
   abbrev pub values_within : ℕ → StType → ℕ
   values_within zero t = 0
   values_within (suc n) t = level_values (values_within n) (out-StType t)
 
-  -- of a type that cannot be told nothing is counted
+  -- Nothing is counted of a type that cannot be told, nor of one that is too deep: it contains itself, or leads to what does, or breaks
+  -- the limit of steps.
   unfoldable pub values_of : Option StType → ℕ
   values_of None = 0
-  values_of (Some t) = values_within 66 t
+  values_of (Some t) = if is_too_deep t then 0 else values_within (suc (suc most_steps)) t
 
   abbrev pub is_in_out : SectionSort → Bool
   is_in_out sort.InOut = true

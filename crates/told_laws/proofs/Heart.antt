@@ -24,9 +24,9 @@ use Rattle.st_rules.specs.Scope.{Scope, Meant, a_variable, a_function, an_enumer
 use Rattle.st_rules.specs.Scope as scope
 use Rattle.st_rules.specs.Places.{an_enumeration, a_value_of, part_type, root_line, root_standing, root_faults, whole_faults, placed, selected, standing_of, meant_type, name_faults, body_variable_in_a_method, qualified_standing, part_of, part_faults, place_type, is_fixed, is_no_variable, qualifies, standing_type, selector_faults, too_many_selectors, super_without_base, target_faults, holds_instances_if_told, qualified_faults, is_outer_output}
 use Rattle.st_rules.specs.Calls.{a_conversion, callee, name_callee, is_on_super, conversion_named, heads, Matched, first_match, later_matches, asked_by, binds, matched_type, value_unsuited, bound_to_another_type, bound_no_variable, is_bindable_place, output_unsuited, call_matches, callee_faults, call_without_result, call_type}
-use Rattle.st_rules.specs.Expressions.{is_untyped, front_asked, operand_asked, asked_behind, type_of, row_type, note_of_value, whole_target, qualified_target, part_target, value_target, is_conversion, expression_faults, faults, row_faults, along_faults, argument_faults, called_root_faults, given_unsuited, enumerator_type, value_type, enumerator_target, enumerator_not_found, operand_unsuited, row_unsuited, line_of}
+use Rattle.st_rules.specs.Expressions.{is_untyped, front_asked, operand_asked, asked_behind, type_of, row_type, note_of_value, whole_target, qualified_target, part_target, value_target, is_conversion, faults, row_faults, along_faults, argument_faults, called_root_faults, given_unsuited, enumerator_type, value_type, enumerator_target, enumerator_not_found, operand_unsuited, row_unsuited, line_of}
 use Rattle.declared_names.specs.WrittenTypes.{bound_value, is_number_type}
-use Rattle.declared_names.specs.Constants.{Outcome, if_none, told_value, constant_faults, zero_divisor, target_value, is_told, constant_value, row_value, operand_value, conversion_asked, converted_value, operated, kind_in, outcome_map, no_constant_part, no_constant_operand, no_constant_argument, no_constant_place, is_constant_place, is_constant_meaning, names_are_told, operands_are_told, arguments_are_told}
+use Rattle.declared_names.specs.Constants.{Outcome, if_none, told_value, zero_divisor, target_value, is_told, constant_value, row_value, operand_value, conversion_asked, converted_value, operated, kind_in, outcome_map, no_constant_part, no_constant_operand, no_constant_argument, no_constant_place, is_constant_place, is_constant_meaning, names_are_told, operands_are_told, arguments_are_told}
 
 -- a scope in which other names and other locals are told
 abbrev pub more : Scope → DeclaredNames → List DeclaredVariable → Scope
@@ -489,19 +489,20 @@ module _ (s : Scope) (names : DeclaredNames) (locals : List DeclaredVariable) wh
   if-told true [] (g ∷ gs) hs v z h = absurd (cc)
   if-told true (f ∷ fs) gs hs v z h = absurd (cc)
 
+  abbrev early-faults : Scope → Asked → Expression ℕ → Faults
+  early-faults t asked e = faults t asked e ++ value_unsuited t (line_of e) asked (type_of t asked e)
+
   same-told : (asked : Asked) (e : Expression ℕ) → SameExpression e → told_value (more s names locals) asked e ≡ told_value s asked e
-  unfolding told_value constant_faults
+  unfolding told_value
   same-told asked e x =
-      ap (λ b. if b then if_none (expression_faults (more s names locals) asked e ++ no_constant_part (more s names locals) e ++ zero_divisor s (constant_value (more s names locals) asked e)) (constant_value (more s names locals) asked e) else None) x.told
-      ∙ ap (λ v. if names_are_told s e then if_none (expression_faults (more s names locals) asked e ++ no_constant_part (more s names locals) e ++ zero_divisor s v) v else None) (x.values asked)
+      ap (λ b. if b then if_none (early-faults (more s names locals) asked e ++ no_constant_part (more s names locals) e ++ zero_divisor s (constant_value (more s names locals) asked e)) (constant_value (more s names locals) asked e) else None) x.told
+      ∙ ap (λ v. if names_are_told s e then if_none (early-faults (more s names locals) asked e ++ no_constant_part (more s names locals) e ++ zero_divisor s v) v else None) (x.values asked)
       ∙ ap (λ fs. if names_are_told s e then if_none (fs ++ zero_divisor s (constant_value s asked e)) (constant_value s asked e) else None)
-      (joined
-      (joined (joined (x.broken asked) (ap (λ t. value_unsuited (more s names locals) (line_of e) asked t) (x.kinds asked) ∙ value-same (line_of e) asked (type_of s asked e))) refl)
-      x.parts)
+      (joined (joined (x.broken asked) (ap (λ t. value_unsuited (more s names locals) (line_of e) asked t) (x.kinds asked) ∙ value-same (line_of e) asked (type_of s asked e))) x.parts)
 
   told-parts : (asked : Asked) (e : Expression ℕ) (z : ℤ) → told_value s asked e ≡ Some z → (names_are_told s e ≡ true) × (no_constant_part s e ≡ [])
-  unfolding told_value constant_faults
-  told-parts asked e z h = if-told (names_are_told s e) (expression_faults s asked e) (no_constant_part s e) (zero_divisor s (constant_value s asked e)) (constant_value s asked e) z h
+  unfolding told_value
+  told-parts asked e z h = if-told (names_are_told s e) (early-faults s asked e) (no_constant_part s e) (zero_divisor s (constant_value s asked e)) (constant_value s asked e) z h
 
   pub value-stays : Lookups s names locals → (asked : Asked) (e : Expression ℕ) (z : ℤ) → told_value s asked e ≡ Some z → told_value (more s names locals) asked e ≡ Some z
   value-stays look asked e z h =

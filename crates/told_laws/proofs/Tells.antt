@@ -23,7 +23,7 @@ use Rattle.declared_names.specs.Constants.{is_told}
 use Rattle.declared_names.specs.WrittenTypes.{type_written}
 use Rattle.declared_names.specs.Variables.{Written, sections_written, sections_in, constant_target, constant_of, declared_with, declared_each, member_targets, local_targets, result_declared, locals_declared, routine_locals}
 use Rattle.declared_names.specs.Declarations.{configuration_globals}
-use Rattle.declared_names.specs.UnitNames.{forgotten, forgotten_target, forgotten_class, forgotten_global, told_locals, unit_scope, class_scope, class_declared, variables_declared, region_count, globals_from, names_from, forgotten_names}
+use Rattle.declared_names.specs.UnitNames.{forgotten, forgotten_target, forgotten_class, forgotten_global, constants_written, told_locals, locals_of, unit_scope, class_scope, class_declared, variables_declared, region_count, globals_from, names_from, forgotten_names}
 use Rattle.told_laws.specs.ToldLaws.{Every, TellsKind, TellsGlobalKind, TellsKinds}
 
 pub pick : {X : Type 0} (P : X → Type 0) (b : Bool) (x y : X) → (b ≡ true → P x) → (b ≡ false → P y) → P (if b then x else y)
@@ -90,6 +90,10 @@ module _ (s : Scope) where
   pub told-tells : (gives : Scope → List DeclaredVariable) → ((t : Scope) → Every TellsKind (gives t)) → (k : ℕ) → Every TellsKind (told_locals s gives k)
   told-tells gives h zero = all-forgotten (gives s)
   told-tells gives h (suc k) = h (record s { locals = told_locals s gives k })
+
+pub locals-of-tell : (s : Scope) (name : List ℕ) (result : Option (TypeSpec ℕ)) (ss : List (Section ℕ)) → Every TellsKind (locals_of s name result ss)
+unfolding locals_of
+locals-of-tell s name result ss = told-tells s (λ t. routine_locals t name result ss) (λ t. routine-tells t name result ss) (suc (length (constants_written ss)))
 
 -- ---- all names
 

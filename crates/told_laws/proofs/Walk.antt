@@ -31,7 +31,7 @@ use Rattle.declared_names.specs.Declarations.{configuration_globals, entries_in}
 use Rattle.declared_names.specs.UnitNames.{forgotten, forgotten_target, told_locals, constants_written, locals_of, result_written, routine_declared, unit_scope, class_scope, entry_kind, entries_declared, types_declared, group_declared, parts_declared, class_declared, method_declared, prototype_declared, interface_declared, variables_declared, region_count, globals_from, names_from}
 use Rattle.told_laws.specs.ToldLaws.{Each, Every, AlikeTarget, AlikeVariable, AlikeOutcome, AlikeRoutine, AlikeClass, AlikeType, AlikeField, AlikeParts, AlikeGlobal, Alike, TellsKind}
 use Rattle.told_laws.proofs.Lookups.{filter-is}
-use Rattle.told_laws.proofs.Tells.{routine-tells, told-tells}
+use Rattle.told_laws.proofs.Tells.{routine-tells, told-tells, locals-of-tell}
 
 pub each-append : {X : Type 0} (R : X → X → Type 0) (xs ys xs' ys' : List X) → Each R xs ys → Each R xs' ys' → Each R (xs ++ xs') (ys ++ ys')
 each-append R [] [] xs' ys' h k = k
@@ -159,7 +159,7 @@ module _
       name = refl;
       access = refl;
       abstract_method = refl;
-      outcome = outcome-alike s t r result;
+      outcome = outcome-alike (record s { locals = locals_of s name result ss }) (record t { locals = locals_of t name result ss }) (within s t (locals_of s name result ss) (locals_of t name result ss) r (locals-of-alike s t r name result ss) (locals-of-tell s name result ss)) result;
       parameters = filter-is (AlikeVariable K T) is_parameter parameter-alike (locals_of s name result ss) (locals_of t name result ss) (locals-of-alike s t r name result ss);
     }
 

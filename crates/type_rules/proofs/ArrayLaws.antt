@@ -1,19 +1,17 @@
 -- One array more around what is told of a type.
-use Rattle.std.proofs.Common.{◌≡◌, ℕ, ◌+◌, ◌<◌, ◌≤◌, Bool, List, [], ◌∷◌, ◌++◌, Option, refl, sym, ap, ◌∙◌, arith, subst, length, get_or, drop, reverse, append_assoc}
-use Rattle.std.specs.Prelude.{◌||◌, flat_map}
-use Rattle.plc_text.specs.declared.code.Code.{Code}
+use Rattle.std.proofs.Common.{◌≡◌, ℕ, ◌+◌, ◌<◌, ◌≤◌, List, [], ◌∷◌, ◌++◌, Option, refl, sym, ap, ◌∙◌, arith, subst, length, get_or, drop, reverse, append_assoc}
+use Rattle.std.specs.Prelude.{flat_map}
 use Rattle.st_types.specs.declared.st_type.StType.{StType}
 use Rattle.st_tree.specs.declared.program.Note.{Note}
 use Rattle.st_tree.specs.declared.program.Target.TheVariants as target
 use Rattle.st_tree.specs.declared.type_spec.ArraySpec.{ArraySpec}
 use Rattle.st_tree.specs.declared.type_spec.Bounds.{Bounds}
 use Rattle.st_tree.specs.Expression.{expression_of}
-use Rattle.st_rules.specs.Faults.{Faults, least, earlier}
+use Rattle.st_rules.specs.Faults.{least, earlier}
 use Rattle.st_rules.specs.Scope.{Scope}
 use Rattle.st_rules.specs.Expressions.{note}
-use Rattle.st_rules.proofs.FaultLaws.{least-append}
 use Rattle.st_rules.proofs.ListLaws.{drop-at, drop-end}
-use Rattle.declared_names.specs.WrittenTypes.{array_of, arrays_of, bound_value, dimension_faults, is_one_more, too_many_arrays}
+use Rattle.declared_names.specs.WrittenTypes.{array_of, arrays_of, bound_value, dimension_faults}
 use Rattle.st_unit_rules.specs.Checked.{Each, TypedBounds}
 use Rattle.type_rules.specs.declared.arrays.Arrays.{Arrays}
 use Rattle.type_rules.specs.declared.arrays.Around.{Around}
@@ -21,7 +19,7 @@ use Rattle.type_rules.specs.declared.dimensions.Told.{Told}
 use Rattle.type_rules.specs.declared.dimensions.Dimensions.{Dimensions}
 use Rattle.type_rules.specs.Private.Dimensions.{DimensionsFind}
 use Rattle.type_rules.specs.Private.Arrays.{bounds_of, TypedAround, IsAround, AddsArray, ArraysFind}
-use Rattle.type_rules.proofs.DimensionLaws.{or-assoc, turned, around}
+use Rattle.type_rules.proofs.DimensionLaws.{turned, around}
 
 -- ---- dimensions of several arrays
 
@@ -29,15 +27,6 @@ module _ (s : Scope) where
   pub arrays-append : (xs ys : List (Bounds ℕ)) (t : Option StType) → arrays_of s (xs ++ ys) t ≡ arrays_of s xs (arrays_of s ys t)
   arrays-append [] ys t = refl
   arrays-append (x ∷ xs) ys t = ap (λ o. array_of (bound_value s (expression_of x.low)) (bound_value s (expression_of x.high)) o) (arrays-append xs ys t)
-
-  pub many-append : (xs ys : List (Bounds ℕ)) (t : Option StType) → too_many_arrays s (xs ++ ys) t ≡ (too_many_arrays s xs (arrays_of s ys t) || too_many_arrays s ys t)
-  many-append [] ys t = refl
-  many-append (x ∷ xs) ys t =
-      let low = bound_value s (expression_of x.low) in
-      let high = bound_value s (expression_of x.high) in
-      ap (λ o. is_one_more s low high o || too_many_arrays s (xs ++ ys) t) (arrays-append xs ys t)
-      ∙ ap (λ b. is_one_more s low high (arrays_of s xs (arrays_of s ys t)) || b) (many-append xs ys t)
-      ∙ or-assoc (is_one_more s low high (arrays_of s xs (arrays_of s ys t))) (too_many_arrays s xs (arrays_of s ys t)) (too_many_arrays s ys t)
 
   faults-append : (xs ys : List (Bounds ℕ)) → flat_map (dimension_faults s) (xs ++ ys) ≡ flat_map (dimension_faults s) xs ++ flat_map (dimension_faults s) ys
   faults-append [] ys = refl
@@ -52,7 +41,6 @@ module _ (s : Scope) where
       record {
         kind = ap (λ y. y.kind) t ∙ g.kind;
         least = ap (λ y. y.least) t ∙ g.least;
-        too_many = ap (λ y. y.too_many) t ∙ g.too_many;
         note = n ∙ ap (λ y. note a.note y.kind target.Nothing) (sym t);
         bounds = subst (λ (ys : List (Bounds Note)). Each (TypedBounds s) a.bounds ys) (sym b) g.bounds;
       }
@@ -72,7 +60,6 @@ module _ (s : Scope) where
         finds = subst (λ (cs : List (ArraySpec ℕ)). ArraysFind x s cs inner) (sym none) (record {
           kind = ap (λ y. y.kind) t;
           least = ap (λ y. y.least) t;
-          too_many = ap (λ y. y.too_many) t;
           arrays = subst (λ (ys : List (ArraySpec Note)). TypedAround s inner.kind [] (reverse ys)) (sym b) tt;
         });
       }
@@ -86,12 +73,6 @@ module _ (s : Scope) where
         least = ap (λ y. y.least) k.told
             ∙ around w.told.least (least (flat_map (dimension_faults s) a.bounds)) before.told.least inner.least (flat_map (dimension_faults s) a.bounds) (flat_map (dimension_faults s) bs) f.least refl g.least
             ∙ ap (λ fs. earlier (least fs) inner.least) (sym (faults-append a.bounds bs));
-        too_many = ap (λ y. y.too_many) k.told
-            ∙ f.too_many
-            ∙ ap (λ t. too_many_arrays s a.bounds t || before.told.too_many) g.kind
-            ∙ ap (λ b. too_many_arrays s a.bounds (arrays_of s bs inner.kind) || b) g.too_many
-            ∙ or-assoc (too_many_arrays s a.bounds (arrays_of s bs inner.kind)) (too_many_arrays s bs inner.kind) inner.too_many
-            ∙ ap (λ b. b || inner.too_many) (sym (many-append a.bounds bs inner.kind));
         arrays = subst (λ (ys : List (ArraySpec Note)). TypedAround s inner.kind (a ∷ rest) ys) (sym (ap reverse k.arrays ∙ turned before.arrays.items w.array))
             ((f.note ∙ ap (λ t. note a.note t target.Nothing) kind), f.bounds, g.arrays);
       }

@@ -1,20 +1,15 @@
 -- Bounds from what is found out about their expressions.
-use Rattle.std.proofs.Common.{◌≡◌, ℕ, ℤ, Bool, true, false, List, [], ◌∷◌, ◌++◌, Option, Some, None, refl, sym, ap, ◌∙◌}
-use Rattle.std.specs.Prelude.{if◌then◌else◌}
-use Rattle.plc_text.specs.declared.code.Code.{Code}
+use Rattle.std.proofs.Common.{◌≡◌, ℕ, ℤ, Bool, ◌++◌, Option, Some, None, refl, ap, ◌∙◌}
 use Rattle.plc_text.specs.declared.code.Code.TheVariants.{E13}
-use Rattle.st_types.specs.declared.st_type.StType.{StType}
 use Rattle.st_tree.specs.declared.type_spec.Bounds.{Bounds}
 use Rattle.st_tree.specs.Expression.{Expression, expression_of}
 use Rattle.st_rules.specs.declared.asked.Asked.TheVariants.{Anything}
-use Rattle.st_rules.specs.Faults.{Faults, least, earlier, when}
+use Rattle.st_rules.specs.Faults.{least, earlier, when}
 use Rattle.st_rules.specs.Scope.{Scope}
 use Rattle.st_rules.specs.Expressions.{line_of, type_of, index_unsuited}
-use Rattle.declared_names.specs.Constants.{Outcome, comes_to, divides_by_zero, cannot_be_told, if_none, constant_value, constant_faults, told_value, names_are_told}
-use Rattle.declared_names.specs.WrittenTypes.{is_number_type, bound_value, bound_faults, lies_above, dimension_faults}
-use Rattle.st_unit_rules.specs.Initials.{outcome_target, with_note, typed_constant}
-use Rattle.st_unit_rules.specs.Checked.{TypedBounds}
-use Rattle.written_types.specs.Outcome.{outcome}
+use Rattle.declared_names.specs.Constants.{if_none, constant_value, value_faults, constant_faults, told_value, names_are_told}
+use Rattle.declared_names.specs.WrittenTypes.{is_number_type, bound_value, bound_faults, lies_above}
+use Rattle.st_unit_rules.specs.Initials.{outcome_target, with_note}
 use Rattle.initial_rules.specs.Constant.{Constant}
 use Rattle.initial_rules.specs.Faults.{IsConstant}
 use Rattle.initial_rules.specs.Worth.{noted}
@@ -23,33 +18,17 @@ use Rattle.type_rules.specs.declared.bounds.CheckedBound.{CheckedBound}
 use Rattle.type_rules.specs.declared.bounds.CheckedDimension.{CheckedDimension}
 use Rattle.type_rules.specs.Private.Bounds.{bound_found, lies_above as above, IsBound, BoundChecks, IsDimension, DimensionChecks}
 
-some_broken : (f : Code × ℕ) (o : Option (Code × ℕ)) (v : Outcome) → bound_found true true (earlier (Some f) o) v ≡ None
-some_broken f None v = refl
-some_broken f (Some g) v = refl
-
-none_broken : (v : Outcome) → bound_found true true None v ≡ if_none [] v
-none_broken (comes_to z) = refl
-none_broken (divides_by_zero l) = refl
-none_broken cannot_be_told = refl
-
-found_is : (number told : Bool) (fs : Faults) (v : Outcome) → bound_found number told (least fs) v ≡ (if number then (if told then if_none fs v else None) else None)
-found_is false told fs v = refl
-found_is true false fs v = refl
-found_is true true [] v = none_broken v
-found_is true true (f ∷ fs) v = some_broken f (least fs) v
-
 module _ (s : Scope) (e : Expression ℕ) where
-  value_is : bound_found (is_number_type (type_of s Anything e)) (names_are_told s e) (least (constant_faults s Anything e)) (constant_value s Anything e) ≡ bound_value s e
+  value_is : bound_found (is_number_type (type_of s Anything e)) (names_are_told s e) (if_none (value_faults s Anything e) (constant_value s Anything e)) ≡ bound_value s e
   unfolding told_value
-  value_is = found_is (is_number_type (type_of s Anything e)) (names_are_told s e) (constant_faults s Anything e) (constant_value s Anything e)
+  value_is = refl
 
   pub bound_checks : (b : CheckedBound) (line : ℕ) (told : Bool) (c : Constant) → line ≡ line_of e → told ≡ names_are_told s e → IsConstant c s Anything e → IsBound b line told c → BoundChecks b s e
   bound_checks b line told c l h k w = record {
     value = w.value
-        ∙ ap (λ t. bound_found (is_number_type t) told c.least (outcome c.value)) k.told
-        ∙ ap (λ y. bound_found (is_number_type (type_of s Anything e)) y c.least (outcome c.value)) h
-        ∙ ap (λ y. bound_found (is_number_type (type_of s Anything e)) (names_are_told s e) y (outcome c.value)) k.least
-        ∙ ap (bound_found (is_number_type (type_of s Anything e)) (names_are_told s e) (least (constant_faults s Anything e))) k.value
+        ∙ ap (λ t. bound_found (is_number_type t) told c.number) k.told
+        ∙ ap (λ y. bound_found (is_number_type (type_of s Anything e)) y c.number) h
+        ∙ ap (bound_found (is_number_type (type_of s Anything e)) (names_are_told s e)) k.number
         ∙ value_is;
     least = joined b.least c.least (least (index_unsuited line c.told)) (constant_faults s Anything e) (index_unsuited (line_of e) (type_of s Anything e)) w.least k.least
         (ap (λ n. least (index_unsuited n c.told)) l ∙ ap (λ t. least (index_unsuited (line_of e) t)) k.told);

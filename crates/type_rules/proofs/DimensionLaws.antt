@@ -1,9 +1,8 @@
 -- One dimension more around what is told of a type.
-use Rattle.std.proofs.Common.{◌≡◌, ℕ, ℤ, ◌+◌, ◌<◌, ◌≤◌, Bool, true, false, List, [], ◌∷◌, ◌++◌, Option, Some, None, refl, sym, ap, ◌∙◌, arith, subst, length, get_or, drop, reverse}
-use Rattle.std.specs.Prelude.{◌||◌, flat_map}
+use Rattle.std.proofs.Common.{◌≡◌, ℕ, ◌+◌, ◌<◌, ◌≤◌, List, [], ◌∷◌, ◌++◌, Option, sym, ap, ◌∙◌, arith, subst, length, get_or, drop, reverse}
+use Rattle.std.specs.Prelude.{flat_map}
 use Rattle.std.proofs.lemmas.List.{reverse-append}
 use Rattle.plc_text.specs.declared.code.Code.{Code}
-use Rattle.st_types.specs.declared.st_type.StType.{StType}
 use Rattle.st_tree.specs.declared.program.Note.{Note}
 use Rattle.st_tree.specs.declared.type_spec.Bounds.{Bounds}
 use Rattle.st_tree.specs.Expression.{expression_of}
@@ -11,28 +10,17 @@ use Rattle.st_rules.specs.Faults.{Faults, least, earlier}
 use Rattle.st_rules.specs.Scope.{Scope}
 use Rattle.st_rules.proofs.FaultLaws.{earlier-assoc, least-append}
 use Rattle.st_rules.proofs.ListLaws.{drop-at, drop-end}
-use Rattle.declared_names.specs.WrittenTypes.{array_of, arrays_of, bound_value, dimension_faults, is_one_more, too_many_arrays}
+use Rattle.declared_names.specs.WrittenTypes.{array_of, bound_value, dimension_faults}
 use Rattle.st_unit_rules.specs.Checked.{Each, TypedBounds}
 use Rattle.type_rules.specs.declared.bounds.CheckedDimension.{CheckedDimension}
 use Rattle.type_rules.specs.declared.dimensions.Told.{Told}
 use Rattle.type_rules.specs.declared.dimensions.Dimensions.{Dimensions}
 use Rattle.type_rules.specs.Private.Bounds.{DimensionChecks}
-use Rattle.type_rules.specs.Private.Dimensions as own
 use Rattle.type_rules.specs.Private.Dimensions.{Surrounds, DimensionsFind}
-
-pub or-assoc : (a b c : Bool) → (a || (b || c)) ≡ ((a || b) || c)
-or-assoc true b c = refl
-or-assoc false b c = refl
 
 -- a list the other way round has what was added last first
 pub turned : {X : Type 0} (xs : List X) (x : X) → reverse (xs ++ x ∷ []) ≡ x ∷ reverse xs
 turned xs x = reverse-append xs (x ∷ [])
-
-one_more_is : (s : Scope) (low high : Option ℤ) (t : Option StType) → own.is_one_more low high t ≡ is_one_more s low high t
-one_more_is s None high t = refl
-one_more_is s (Some a) None t = refl
-one_more_is s (Some a) (Some b) None = refl
-one_more_is s (Some a) (Some b) (Some t) = refl
 
 -- the least of one part, and of what is told behind it
 pub around : (r own rest inner : Option (Code × ℕ)) (fs gs : Faults) → r ≡ earlier own rest → own ≡ least fs → rest ≡ earlier (least gs) inner → r ≡ earlier (least (fs ++ gs)) inner
@@ -52,7 +40,6 @@ module _ (s : Scope) where
         finds = subst (λ (cs : List (Bounds ℕ)). DimensionsFind x s cs inner) (sym none) (record {
           kind = ap (λ y. y.kind) t;
           least = ap (λ y. y.least) t;
-          too_many = ap (λ y. y.too_many) t;
           bounds = subst (λ (ys : List (Bounds Note)). Each (TypedBounds s) [] (reverse ys)) (sym b) tt;
         });
       }
@@ -64,13 +51,6 @@ module _ (s : Scope) where
       record {
         kind = w.kind ∙ ap (λ y. array_of y d.high before.told.kind) f.low ∙ ap (λ y. array_of low y before.told.kind) f.high ∙ ap (array_of low high) k.kind;
         least = around x.told.least d.least before.told.least inner.least (dimension_faults s b) (flat_map (dimension_faults s) bs) w.least f.least k.least;
-        too_many = w.too_many
-            ∙ ap (λ y. y || before.told.too_many) (one_more_is s d.low d.high before.told.kind)
-            ∙ ap (λ y. is_one_more s y d.high before.told.kind || before.told.too_many) f.low
-            ∙ ap (λ y. is_one_more s low y before.told.kind || before.told.too_many) f.high
-            ∙ ap (λ y. is_one_more s low high y || before.told.too_many) k.kind
-            ∙ ap (λ y. is_one_more s low high (arrays_of s bs inner.kind) || y) k.too_many
-            ∙ or-assoc (is_one_more s low high (arrays_of s bs inner.kind)) (too_many_arrays s bs inner.kind) inner.too_many;
         bounds = subst (λ (ys : List (Bounds Note)). Each (TypedBounds s) (b ∷ bs) ys) (sym (ap reverse w.bounds ∙ turned before.bounds.items d.bounds)) (f.bounds, k.bounds);
       }
 

@@ -1,28 +1,23 @@
 -- A written type from its element and its arrays.
-use Rattle.std.proofs.Common.{◌≡◌, ℕ, Bool, true, false, List, [], ◌∷◌, ◌++◌, Option, refl, sym, ap, ◌∙◌, subst, reverse}
-use Rattle.std.specs.Prelude.{◌||◌, flat_map}
-use Rattle.plc_text.specs.declared.code.Code.{Code}
+use Rattle.std.proofs.Common.{◌≡◌, ℕ, List, [], ◌∷◌, Option, refl, sym, ap, ◌∙◌, subst, reverse}
+use Rattle.std.specs.Prelude.{flat_map}
 use Rattle.st_types.specs.declared.st_type.StType.{StType}
 use Rattle.st_tree.specs.declared.program.Note.{Note}
 use Rattle.st_tree.specs.declared.type_spec.ArraySpec.{ArraySpec}
 use Rattle.st_tree.specs.declared.type_spec.SimpleSpec.{SimpleSpec}
 use Rattle.st_tree.specs.declared.type_spec.TypeSpec.{TypeSpec}
-use Rattle.st_rules.specs.Faults.{least, earlier}
+use Rattle.st_rules.specs.Faults.{least}
 use Rattle.st_rules.specs.Scope.{Scope}
-use Rattle.declared_names.specs.WrittenTypes.{type_written, type_faults, has_too_many_dimensions, dimensions, dimension_faults, element_faults, element_written, arrays_of, too_many_arrays}
-use Rattle.st_unit_rules.specs.Checked.{TypedSpec, TypedArrays, TypedElement}
+use Rattle.declared_names.specs.WrittenTypes.{type_written, type_faults, dimensions, dimension_faults, element_faults, element_written, arrays_of}
+use Rattle.st_unit_rules.specs.Checked.{TypedArrays, TypedElement}
 use Rattle.initial_rules.proofs.Parts.{joined}
 use Rattle.type_rules.specs.declared.arrays.Arrays.{Arrays}
 use Rattle.type_rules.specs.declared.dimensions.Told.{Told}
 use Rattle.type_rules.specs.declared.elements.CheckedElement.{CheckedElement}
 use Rattle.type_rules.specs.declared.types.CheckedType.{CheckedType}
 use Rattle.type_rules.specs.Types.{ChecksType}
-use Rattle.type_rules.specs.Private.Arrays.{bounds_of, TypedAround, ArraysFind}
+use Rattle.type_rules.specs.Private.Arrays.{TypedAround, ArraysFind}
 use Rattle.type_rules.specs.Private.Elements.{ElementChecks}
-
-or_false : (b : Bool) → (b || false) ≡ b
-or_false true = refl
-or_false false = refl
 
 module _ (s : Scope) where
   arrays_typed : (element : SimpleSpec ℕ) (xs : List (ArraySpec ℕ)) (ys : List (ArraySpec Note)) → TypedAround s (element_written s element) xs ys → TypedArrays s element xs ys
@@ -31,16 +26,15 @@ module _ (s : Scope) where
   arrays_typed element [] (y ∷ ys) h = absurd h
   arrays_typed element (x ∷ xs) [] h = absurd h
 
-  pub type_checks : (c : CheckedType) (t : TypeSpec ℕ) (e : CheckedElement) (inner : Told) (arrays : List (ArraySpec ℕ)) (x : Arrays) → ElementChecks e s t.element → inner.kind ≡ e.kind → inner.least ≡ e.least → inner.too_many ≡ false
-      → arrays ≡ t.arrays → ArraysFind x s arrays inner → c.kind ≡ x.told.kind → c.least ≡ x.told.least → c.too_many ≡ x.told.too_many → c.tree.arrays ≡ reverse x.arrays.items → c.tree.element ≡ e.element → ChecksType c s t
-  unfolding type_written type_faults has_too_many_dimensions
-  type_checks c t e inner arrays x f ik il im q g k l m ta te =
+  pub type_checks : (c : CheckedType) (t : TypeSpec ℕ) (e : CheckedElement) (inner : Told) (arrays : List (ArraySpec ℕ)) (x : Arrays) → ElementChecks e s t.element → inner.kind ≡ e.kind → inner.least ≡ e.least
+      → arrays ≡ t.arrays → ArraysFind x s arrays inner → c.kind ≡ x.told.kind → c.least ≡ x.told.least → c.tree.arrays ≡ reverse x.arrays.items → c.tree.element ≡ e.element → ChecksType c s t
+  unfolding type_written type_faults
+  type_checks c t e inner arrays x f ik il q g k l ta te =
       let h : ArraysFind x s t.arrays inner = subst (λ (as' : List (ArraySpec ℕ)). ArraysFind x s as' inner) q g in
       let element : inner.kind ≡ element_written s t.element = ik ∙ f.kind in
       record {
         kind = k ∙ h.kind ∙ ap (arrays_of s (dimensions t)) element;
         least = joined c.least (least (flat_map (dimension_faults s) (dimensions t))) inner.least (flat_map (dimension_faults s) (dimensions t)) (element_faults s t.element) (l ∙ h.least) refl (il ∙ f.least);
-        too_many = m ∙ h.too_many ∙ ap (λ b. too_many_arrays s (dimensions t) inner.kind || b) im ∙ or_false (too_many_arrays s (dimensions t) inner.kind) ∙ ap (too_many_arrays s (dimensions t)) element;
         tree = record {
           arrays = subst (λ (ys : List (ArraySpec Note)). TypedArrays s t.element t.arrays ys) (sym ta)
               (arrays_typed t.element t.arrays (reverse x.arrays.items) (subst (λ (o : Option StType). TypedAround s o t.arrays (reverse x.arrays.items)) element h.arrays));

@@ -3,12 +3,11 @@ use Rattle.std.specs.Prelude.{◌≡◌, ℕ}
 use Rattle.st_tree.specs.declared.type_spec.TypeSpec.{TypeSpec}
 use Rattle.st_rules.specs.Faults.{least}
 use Rattle.st_rules.specs.Scope.{Scope}
-use Rattle.declared_names.specs.WrittenTypes.{type_written, type_faults, has_too_many_dimensions}
+use Rattle.declared_names.specs.WrittenTypes.{type_written, type_faults}
 use Rattle.st_unit_rules.specs.Checked.{TypedSpec}
 use Rattle.type_rules.specs.declared.types.CheckedType.{CheckedType}
 
 pub record ChecksType (c : CheckedType) (s : Scope) (t : TypeSpec ℕ) : Type 0 where
   pub kind : c.kind ≡ type_written s t
   pub least : c.least ≡ least (type_faults s t)
-  pub too_many : c.too_many ≡ has_too_many_dimensions s t
   pub tree : TypedSpec s t c.tree

@@ -3,7 +3,6 @@
 ghost use Rattle.std.specs.Prelude.{◌≡◌, IfOk};
 ghost use Rattle.st_tree.specs.Expression.{expression_of};
 ghost use Rattle.declared_names.specs.WrittenTypes as written;
-ghost use Rattle.written_types.specs.Outcome.{outcome};
 ghost use Rattle.type_rules.specs.Private.Bounds.{bound_found, lies_above, IsBound, BoundChecks, IsDimension, DimensionChecks};
 
 use initial_rules::constant_faults::{Constant, check_constant};
@@ -14,7 +13,6 @@ use st_rules::{Asked, earlier, when};
 use st_tree::{Bounds, Expr, Note};
 use st_types::StType;
 use std::alloc::Global;
-use written_types::constant_values::Outcome;
 use written_types::st_expr_parts::line_of;
 use written_types::st_scope::Scope;
 use written_types::told_expressions::names_are_told;
@@ -48,24 +46,11 @@ fn is_number_type(kind: &Option<StType>) -> bool
     }
 }
 
-/// The value of a bound, where it is a number, all its names are told, and no rule is broken.
-fn bound_found(number: bool, told: bool, least: Option<(Code, u32)>, value: Outcome) -> Option<i128>
-    ensures { result ≡ bound_found number told least (outcome value) }
+/// What a bound comes to, where it is an integer or a bit string, and all its names are told.
+fn bound_found(is_number: bool, told: bool, number: Option<i128>) -> Option<i128>
+    ensures { result ≡ bound_found is_number told number }
 {
-    if !number {
-        return None;
-    }
-    if !told {
-        return None;
-    }
-    if least.is_some() {
-        return None;
-    }
-    match value {
-        Outcome::Number(z) => Some(z),
-        Outcome::DividesByZero(_) => None,
-        Outcome::Untold => None,
-    }
+    if is_number && told { number } else { None }
 }
 
 /// A bound at this line, whose names are all told or not.
@@ -77,8 +62,9 @@ fn bound_of(line: u32, told: bool, c: Constant) -> CheckedBound
         least,
         tree,
         value,
+        number,
     } = c;
-    let found = bound_found(is_number_type(&kind), told, least, value);
+    let found = bound_found(is_number_type(&kind), told, number);
     CheckedBound {
         value: found,
         least: earlier(least, index_fault(line, &kind)),

@@ -1,15 +1,16 @@
 //! The dimensions of one array, the innermost first.
 
-ghost use Rattle.std.specs.Prelude.{◌≡◌, nat_lt, IfOk};
+ghost use Rattle.std.specs.Prelude.{◌≡◌, IfOk};
 ghost use Rattle.declared_names.specs.WrittenTypes as written;
-ghost use Rattle.type_rules.specs.Private.Dimensions.{IsOuter, IsUntold, Surrounds, DimensionsFind};
+ghost use Rattle.type_rules.specs.Private.Dimensions.{Surrounds, DimensionsFind};
 
 use crate::bounds::{CheckedDimension, check_dimension};
 use plc_text::{Code, NoMemory};
 use st_rules::earlier;
 use st_tree::{Bounds, Note};
-use st_types::{Boxed, StType};
+use st_types::StType;
 use std::alloc::Global;
+use written_types::array_of;
 use written_types::st_scope::Scope;
 
 /// What is told of a type from some dimension on.
@@ -17,8 +18,6 @@ use written_types::st_scope::Scope;
 pub struct Told {
     pub kind: Option<StType>,
     pub least: Option<(Code, u32)>,
-    /// Whether there are more arrays in one another than a type may have.
-    pub too_many: bool,
 }
 
 /// Dimensions of an array so far, the last one first.
@@ -28,65 +27,21 @@ pub struct Dimensions {
     pub bounds: Vec<Bounds<Note>>,
 }
 
-/// An array, where it can be told, and whether it is one more than a type may have.
-#[derive(Drop)]
-struct Outer {
-    kind: Option<StType>,
-    one_more: bool,
-}
-
-/// Whether fewer than so many arrays lie in one another, with the outermost one.
-fn has_room(kind: &StType, most: u32) -> bool
-    ensures { result ≡ nat_lt (written.array_depth kind.now) most }
-{
-    match kind {
-        StType::Array(_, _, of) => most > 1 && has_room(of.get(), most - 1),
-        StType::Elementary(_) => most > 0,
-        StType::Enumeration(_) => most > 0,
-        StType::Structure(_) => most > 0,
-        StType::Instance(_) => most > 0,
-        StType::Reference(_) => most > 0,
-        StType::Interface(_) => most > 0,
-    }
-}
-
-/// An array between these bounds.
-fn array_of(
+/// An array between these bounds, where all is told.
+fn around(
     alloc: Global,
     low: Option<i128>,
     high: Option<i128>,
     of: Option<StType>,
-) -> Result<Outer, NoMemory>
-    ensures { IfOk result (λ x. IsOuter x low high of) }
+) -> Result<Option<StType>, NoMemory>
+    ensures { IfOk result (λ t. t ≡ written.array_of low high of) }
 {
-    let Some(low) = low else {
-        return Ok(untold(false));
-    };
-    let Some(high) = high else {
-        return Ok(untold(false));
-    };
-    let Some(of) = of else {
-        return Ok(untold(false));
-    };
-    if low > high {
-        return Ok(untold(false));
-    }
-    if !has_room(&of, 65) {
-        return Ok(untold(true));
-    }
-    let of = Boxed::new(alloc, of)?;
-    Ok(Outer {
-        kind: Some(StType::Array(low, high, of)),
-        one_more: false,
-    })
-}
-
-fn untold(one_more: bool) -> Outer
-    ensures { IsUntold result one_more }
-{
-    Outer {
-        kind: None,
-        one_more,
+    match of {
+        Some(of) => {
+            let kind = array_of(alloc, low, high, of)?;
+            Ok(kind)
+        }
+        None => Ok(None),
     }
 }
 
@@ -99,24 +54,19 @@ fn with_dimension(
     ensures { IfOk result (λ x. Surrounds x so_far dimension) }
 {
     let Dimensions { told, mut bounds } = so_far;
-    let Told {
-        kind,
-        least,
-        too_many,
-    } = told;
+    let Told { kind, least } = told;
     let CheckedDimension {
         low,
         high,
         least: own,
         bounds: more,
     } = dimension;
-    let Outer { kind, one_more } = array_of(alloc, low, high, kind)?;
+    let kind = around(alloc, low, high, kind)?;
     bounds.push(more)?;
     Ok(Dimensions {
         told: Told {
             kind,
             least: earlier(own, least),
-            too_many: one_more || too_many,
         },
         bounds,
     })

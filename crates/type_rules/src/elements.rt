@@ -1,11 +1,13 @@
 //! What the innermost array of a type is of.
 
-ghost use Rattle.std.specs.Prelude.{◌≡◌, IfOk, option_and_then};
+ghost use Rattle.std.specs.Prelude.{◌≡◌, IfOk, ◌&&◌, not, option_and_then};
+ghost use Rattle.plc_text.specs.declared.code.Code.TheVariants.{E07};
 ghost use Rattle.st_rules.specs.Expressions as expressions;
+ghost use Rattle.st_rules.specs.Faults as faults;
 ghost use Rattle.st_rules.specs.Faults.{least};
 ghost use Rattle.st_tree.specs.declared.program.Target.TheVariants as targets;
 ghost use Rattle.declared_names.specs.WrittenTypes as written;
-ghost use Rattle.type_rules.specs.Private.Elements.{ElementChecks, IsElementary, IsNamed, IsReference, is_no_instance};
+ghost use Rattle.type_rules.specs.Private.Elements.{ElementChecks, IsElementary, IsNamed, IsReference, is_instance_told};
 
 use plc_text::{Code, NoMemory, Text};
 use st_rules::{earlier, when};
@@ -67,14 +69,21 @@ fn reference_to(kind: &Option<StType>) -> Option<StType>
     }
 }
 
-fn is_no_instance(kind: &Option<StType>) -> bool
-    ensures { result ≡ is_no_instance kind.now }
+fn is_instance(kind: &Option<StType>) -> bool
+    ensures { result ≡ is_instance_told kind.now }
 {
     match kind {
-        Some(StType::Instance(_)) => false,
-        Some(_) => true,
+        Some(StType::Instance(_)) => true,
+        Some(_) => false,
         None => false,
     }
+}
+
+/// E07 where a type is found that is no class and no function block.
+fn reference_fault(line: u32, found: bool, of: &Option<StType>) -> Option<(Code, u32)>
+    ensures { result ≡ least (faults.when (found && not (is_instance_told of.now)) E07 line) }
+{
+    when(found && !is_instance(of), Code::E07, line)
 }
 
 /// E05 where no type has the name.
@@ -121,7 +130,8 @@ fn reference(
 {
     let of = named_type(alloc, s, name)?;
     let kind = reference_to(&of);
-    let other = when(is_no_instance(&of), Code::E07, name_line);
+    let found = s.type_named(name).is_some();
+    let other = reference_fault(name_line, found, &of);
     let note = noted(alloc, line, &kind)?;
     let name_note = noted(alloc, name_line, &of)?;
     let copy = Text::copy(alloc, name.as_str())?;

@@ -19,13 +19,11 @@ pub struct CheckedType {
     pub kind: Option<StType>,
     /// The least rule that is broken, with its least line.
     pub least: Option<(Code, u32)>,
-    /// Whether more than 64 arrays lie in the outermost one.
-    pub too_many: bool,
     pub tree: TypeSpec<Note>,
 }
 
-/// Checks a type as it is written: what it means, where it can be told, the least rule that it breaks at its least line, whether it has
-/// more dimensions than a type may have, and its typed tree. It takes time linear in the text.
+/// Checks a type as it is written: what it means, where it can be told, the least rule that it breaks at its least line, and its typed
+/// tree. It takes time linear in the text.
 pub fn check_type(
     alloc: Global,
     s: &Scope<'_>,
@@ -39,23 +37,14 @@ pub fn check_type(
         least,
         element,
     } = e;
-    let inner = Told {
-        kind,
-        least,
-        too_many: false,
-    };
+    let inner = Told { kind, least };
     let found = check_arrays(alloc, s, spec.arrays.as_slice(), inner)?;
     let Arrays { told, arrays } = found;
-    let Told {
-        kind,
-        least,
-        too_many,
-    } = told;
+    let Told { kind, least } = told;
     let arrays = turned_arrays(alloc, arrays)?;
     Ok(CheckedType {
         kind,
         least,
-        too_many,
         tree: TypeSpec { arrays, element },
     })
 }

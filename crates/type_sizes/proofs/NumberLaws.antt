@@ -11,6 +11,10 @@ capped_sum a b = omega arith
 pub capped_one : (a : ℕ) → capped (capped a + 1) ≡ capped (suc a)
 capped_one a = omega arith
 
+-- at least one
+pub capped_some : (a : ℕ) → max (capped a) 1 ≡ capped (max 1 a)
+capped_some a = omega arith
+
 pub capped_small : (n : ℕ) → n ≤ 4294967295 → capped n ≡ n
 capped_small n h = omega arith
 

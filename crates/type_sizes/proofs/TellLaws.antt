@@ -1,6 +1,6 @@
 -- What sizes tell when they are put together.
 use Rattle.std.proofs.Common.{◌≡◌, ℕ, zero, suc, ◌+◌, ◌*◌, ◌<◌, ◌≤◌, ℤ, Bool, true, false, List, [], ◌∷◌, ◌++◌, Option, Some, None, map, refl, sym, ap, ◌∙◌, subst, arith, append-nil}
-use Rattle.std.specs.Prelude.{nat_lt, ◌||◌, ◌&&◌, ◌-ℤ◌}
+use Rattle.std.specs.Prelude.{nat_lt, max, if◌then◌else◌, ◌||◌, ◌&&◌, ◌-ℤ◌}
 use Rattle.std.specs.List.{list_any}
 use Rattle.std.proofs.lemmas.Bool.{le-ltb}
 use Rattle.std.proofs.lemmas.List.{map-append}
@@ -10,11 +10,11 @@ use Rattle.st_types.specs.declared.st_type.StType.TheVariants as type
 use Rattle.st_types.specs.declared.st_type.StType.TheOpen.{StType-F}
 use Rattle.st_rules.specs.Scope.{Scope}
 use Rattle.st_unit_rules.specs.Worth.{count_to}
-use Rattle.st_unit_rules.specs.Limits.{contents, has_depth, is_composite, kinds_told, level_values, sum_of, values_within}
+use Rattle.st_unit_rules.specs.Limits.{contents, has_depth, is_composite, kinds_told, level_values, sum_of, values_of, values_within}
 use Rattle.type_sizes.specs.declared.size.Size.{Size}
 use Rattle.type_sizes.specs.Size.{capped, nothing, simple, both, structure, instance, array}
 use Rattle.type_sizes.specs.Levels.{values_in, Tells, IsSize}
-use Rattle.type_sizes.proofs.NumberLaws.{capped_sum, capped_one, capped_product, below_max, below_next, first_below}
+use Rattle.type_sizes.proofs.NumberLaws.{capped_sum, capped_one, capped_some, capped_product, below_max, below_next, first_below}
 
 module _ (s : Scope) (r : ℕ) where
   -- ---- things side by side
@@ -69,7 +69,9 @@ module _ (s : Scope) (r : ℕ) where
     deeper_size values v = record { values-are = v ∙ ap (λ p. capped (level_values s (values_within s r) p)) (sym e); steps-are = deeper_steps }
 
   pub structure_size : (a : Size) (k : ℕ) → Tells s r a (contents s (StType-F.Structure k)) → IsSize s (suc r) (structure a) (type.Structure k)
-  structure_size a k h = deeper_size a (type.Structure k) (StType-F.Structure k) (type.outs-Structure k) refl h a.values h.values-are
+  structure_size a k h =
+      deeper_size a (type.Structure k) (StType-F.Structure k) (type.outs-Structure k) refl h (max a.values 1)
+      (ap (λ n. max n 1) h.values-are ∙ capped_some (values_in s r (contents s (StType-F.Structure k))))
 
   pub instance_size : (a : Size) (c : ℕ) → Tells s r a (contents s (StType-F.Instance c)) → IsSize s (suc r) (instance a) (type.Instance c)
   instance_size a c h =
@@ -119,6 +121,15 @@ module _ (s : Scope) (r : ℕ) where
 
 pub zero_size : (s : Scope) (t : StType) → IsSize s 0 nothing t
 zero_size s t = record { values-are = refl; steps-are = λ n l m. absurd (omega arith) }
+
+-- of a type that is not too deep
+pub values_counted : (s : Scope) (a : Size) (t : StType) (n : ℕ) → n ≡ (if nat_lt 65 a.steps then 0 else a.values) → IsSize s 66 a t → n ≡ capped (values_of s (Some t))
+unfolding values_of
+values_counted s a t n e h = e ∙ ap (λ (b : Bool). if b then 0 else a.values) (sym (h.steps-are 65 (omega arith) (omega arith))) ∙ at (has_depth s 65 t)
+  where
+    at : (b : Bool) → (if b then 0 else a.values) ≡ capped (if b then 0 else values_within s 66 t)
+    at true = refl
+    at false = h.values-are
 
 -- ---- lists of things that may not be told
 

@@ -17,7 +17,7 @@ abbrev pub both : Size → Size → Size
 both a b = record { values = capped (a.values + b.values); steps = max a.steps b.steps }
 
 abbrev pub structure : Size → Size
-structure a = record { values = a.values; steps = capped (a.steps + 1) }
+structure a = record { values = max a.values 1; steps = capped (a.steps + 1) }
 
 abbrev pub instance : Size → Size
 instance a = record { values = capped (a.values + 1); steps = capped (a.steps + 1) }

@@ -42,12 +42,12 @@ pub fn both(a: Size, b: Size) -> Size
     }
 }
 
-/// A structure of such fields.
+/// A structure of such fields: one value, where it has none.
 pub fn structure(fields: Size) -> Size
     ensures { result ≡ sizes.structure fields }
 {
     Size {
-        values: fields.values,
+        values: fields.values.max(1),
         steps: fields.steps.saturating_add(1),
     }
 }

@@ -1,6 +1,6 @@
 //! Sizes of the types of a unit.
 
-ghost use Rattle.std.specs.Prelude.{◌≡◌, ◌<◌, length, IfOk};
+ghost use Rattle.std.specs.Prelude.{◌≡◌, ◌<◌, nat_lt, if◌then◌else◌, length, IfOk};
 ghost use Rattle.st_rules.specs.Classes.{classes_in};
 ghost use Rattle.st_rules.specs.Scope.{Scope};
 ghost use Rattle.st_unit_rules.specs.Limits as limits;
@@ -10,6 +10,7 @@ ghost use Rattle.type_sizes.specs.Sizes.{Measures};
 
 use crate::levels::{Level, size_of};
 use crate::rounds::next_level;
+use crate::size::Size;
 use class_chains::ClassChains;
 use class_tables::ClassTables;
 use plc_text::NoMemory;
@@ -25,6 +26,16 @@ const STEPS: usize = 66;
 #[derive(Drop)]
 pub struct TypeSizes {
     levels: Vec<Level>,
+}
+
+/// The values of a type, if it is not too deep.
+fn counted(size: Size) -> u32
+    ensures { result ≡ (if nat_lt 65 size.steps then 0 else size.values) }
+{
+    if size.steps > 65 {
+        return 0;
+    }
+    size.values
 }
 
 fn levels_of(
@@ -59,26 +70,26 @@ impl TypeSizes {
         Ok(TypeSizes { levels })
     }
 
-    /// How many values a variable of the type has, or 2^32 - 1, if there are more.
+    /// How many values a variable of the type has, or 2^32 - 1, if there are more; of a type that is too deep none are counted.
     pub fn values_of(&self, kind: &Option<StType>) -> u32
         ensures { (s : Scope) → Measures self.now s → result ≡ capped (limits.values_of s kind.now) }
     {
         match kind {
-            Some(kind) => size_of(&self.levels, STEPS, kind).values,
+            Some(kind) => counted(size_of(&self.levels, STEPS, kind)),
             None => 0,
         }
     }
 
     /// Whether more than 64 steps of containment lead from the type to an array, a structure or an instance.
     pub fn is_too_deep(&self, kind: &StType) -> bool
-        ensures { (s : Scope) → Measures self.now s → result ≡ limits.has_depth s 65 kind.now }
+        ensures { (s : Scope) → Measures self.now s → result ≡ limits.is_too_deep s kind.now }
     {
         self.has_depth(65, kind)
     }
 
     /// Whether more than 63 steps lead there: as many as a variable of a program may have, whose instance is one step more.
     pub fn is_too_deep_in_program(&self, kind: &StType) -> bool
-        ensures { (s : Scope) → Measures self.now s → result ≡ limits.has_depth s 64 kind.now }
+        ensures { (s : Scope) → Measures self.now s → result ≡ limits.has_depth s limits.most_steps kind.now }
     {
         self.has_depth(64, kind)
     }

@@ -1,6 +1,6 @@
 -- In a unit that breaks no rule nothing contains itself, and what is not too deep has no such depth.
-use Rattle.std.proofs.Common.{◌≡◌, ℕ, suc, ◌+◌, ◌<◌, Bool, true, false, List, [], ◌∷◌, ◌++◌, map, length, Option, Some, None, refl, sym, ap, ◌∙◌, arith}
-use Rattle.std.specs.Prelude.{not, ◌&&◌, flat_map, slice_get}
+use Rattle.std.proofs.Common.{◌≡◌, ℕ, suc, ◌+◌, ◌<◌, Bool, true, false, List, [], ◌∷◌, ◌++◌, map, length, Some, refl, sym, ap, ◌∙◌, arith}
+use Rattle.std.specs.Prelude.{not, ◌&&◌, ◌||◌, flat_map, slice_get}
 use Rattle.std.specs.List.{list_any}
 use Rattle.std.proofs.lemmas.List.{length-map, map-append}
 use Rattle.plc_text.specs.declared.code.Code.{Code}
@@ -11,10 +11,10 @@ use Rattle.st_rules.specs.Numbered.{each_numbered}
 use Rattle.st_rules.specs.Scope.{Scope}
 use Rattle.st_rules.proofs.Booleans.{neither, or-neither}
 use Rattle.declared_names.specs.Declarations.{Declaration, Placed, Region, declarations, declarations_of, instances_of, is_first_configuration, heading_line, name_of, names_put, place_each, placed, placed_from, regions_of}
-use Rattle.declared_names.specs.WrittenTypes.{type_written, has_too_many_dimensions}
-use Rattle.st_unit_rules.specs.Cycles.{element_names, type_place, contains_itself, leads_to_cycle, cycle_faults}
+use Rattle.declared_names.specs.WrittenTypes.{type_written}
+use Rattle.st_unit_rules.specs.Cycles.{element_names, types_named, contains_itself, leads_to_cycle, cycle_faults}
 use Rattle.st_unit_rules.specs.DeclarationRules.{sort_faults, declaration_faults}
-use Rattle.st_unit_rules.specs.Limits.{too_many_declarations, has_depth_told, comes_to_cycle_by, is_endless, is_deeper, too_deep}
+use Rattle.st_unit_rules.specs.Limits.{too_many_declarations, has_many_dimensions, has_depth_told, is_endless, too_deep, variable_too_deep}
 use Rattle.st_unit_rules.specs.NameRules.{declared_before, name_of_conversion}
 use Rattle.st_unit_rules.specs.UnitRefusal.{BreaksNothing, faults_of}
 use Rattle.told_laws.specs.ToldLaws.{Every}
@@ -109,16 +109,18 @@ module _ (decls : List (Decl ℕ)) (good : BreaksNothing decls) where
 
   -- ---- depth
 
-  comes_to_none : (s : Scope) (o : Option ℕ) → comes_to_cycle_by s (declarations decls) o ≡ false
-  comes_to_none s None = refl
-  comes_to_none s (Some i) = leads_to_none i
-
   has_end : (s : Scope) (t : TypeSpec ℕ) → is_endless s (declarations decls) t ≡ false
-  has_end s t = none_passes (λ name. comes_to_cycle_by s (declarations decls) (type_place (declarations decls) name)) (λ name. comes_to_none s (type_place (declarations decls) name)) (element_names t.element)
+  has_end s t = none_passes (leads_to_cycle (declarations decls)) leads_to_none (types_named (declarations decls) (element_names t.element))
 
   -- a type that is not too deep
   pub not_deep : (s : Scope) (n line : ℕ) (t : TypeSpec ℕ) → too_deep s (declarations decls) n line t ≡ [] → has_depth_told s (suc n) (type_written s t) ≡ false
   not_deep s n line t h =
-      let w : is_deeper s (declarations decls) n t ≡ false = not_when (is_deeper s (declarations decls) n t) _ line h in
-      let b = neither (has_too_many_dimensions s t) (has_depth_told s (suc n) (type_written s t) && not (is_endless s (declarations decls) t)) w in
-      and_first (has_depth_told s (suc n) (type_written s t)) (not (is_endless s (declarations decls) t)) b.1 (ap not (has_end s t))
+      let deep = has_depth_told s (suc n) (type_written s t) in
+      and_first deep (not (is_endless s (declarations decls) t)) (not_when (deep && not (is_endless s (declarations decls) t)) _ line h) (ap not (has_end s t))
+
+  -- so that of a variable
+  pub variable_not_deep : (s : Scope) (n line : ℕ) (t : TypeSpec ℕ) → variable_too_deep s (declarations decls) n line t ≡ [] → has_depth_told s (suc n) (type_written s t) ≡ false
+  variable_not_deep s n line t h =
+      let many = has_many_dimensions (type_written s t) in
+      let deep = has_depth_told s (suc n) (type_written s t) in
+      (neither many deep (and_first (many || deep) (not (is_endless s (declarations decls) t)) (not_when ((many || deep) && not (is_endless s (declarations decls) t)) _ line h) (ap not (has_end s t)))).1

@@ -20,7 +20,7 @@ use Rattle.st_unit_rules.specs.UnitRefusal.{BreaksNothing}
 use Rattle.st_unit_rules.specs.VariableRules.{of_globals, item_faults}
 use Rattle.told_laws.specs.ToldLaws.{Every}
 use Rattle.unfolding_laws.proofs.ListLaws.{every_append, every_front, every_back, every_one, every_from, every_means, every_mapped, every_flat, every_joined}
-use Rattle.unfolding_laws.proofs.CycleLaws.{none_in, none_of_each, all_placed, none_there, not_deep}
+use Rattle.unfolding_laws.proofs.CycleLaws.{none_in, none_of_each, all_placed, none_there, not_deep, variable_not_deep}
 
 module _ (decls : List (Decl ℕ)) where
   abbrev pub unit : Scope
@@ -49,7 +49,7 @@ module _ (decls : List (Decl ℕ)) where
         let front = none_in _ _ h in
         let own = none_in _ _ front.0 in
         let first : item_faults unit of_globals g.section g.item ++ item_too_deep decls unit g.item ≡ [] = sym (ap (λ b. if b then item_faults unit of_globals g.section g.item ++ item_too_deep decls unit g.item else []) q) ∙ own.1 in
-        not_deep decls good unit 64 _ g.item.kind (none_in (item_faults unit of_globals g.section g.item) (item_too_deep decls unit g.item) first).1
+        variable_not_deep decls good unit 64 _ g.item.kind (none_in (item_faults unit of_globals g.section g.item) (item_too_deep decls unit g.item) first).1
 
     program_good : (d : ProgramDecl ℕ) → program_faults decls d ≡ [] → GoodProgram d
     program_good d h =
@@ -57,10 +57,9 @@ module _ (decls : List (Decl ℕ)) where
         let kept = filter is_kept_written (sections_written d.sections) in
         let but_body = none_in _ _ h in
         let limits = none_in _ (program_limits decls s d) but_body.0 in
-        let but_locals = none_in _ _ limits.1 in
-        let deep = none_in _ (flat_map (λ w. too_deep s (declarations decls) 63 d.line w.item.kind) kept) but_locals.0 in
+        let deep = none_in (flat_map (λ w. too_deep s (declarations decls) 63 d.line w.item.kind) kept) _ limits.1 in
         every_means (λ (w : Written). too_deep s (declarations decls) 63 d.line w.item.kind ≡ []) (λ (w : Written). has_depth_told s 64 (type_written s w.item.kind) ≡ false)
-        (λ w e. not_deep decls good s 63 d.line w.item.kind e) kept (none_of_each (λ (w : Written). too_deep s (declarations decls) 63 d.line w.item.kind) kept deep.1)
+        (λ w e. not_deep decls good s 63 d.line w.item.kind e) kept (none_of_each (λ (w : Written). too_deep s (declarations decls) 63 d.line w.item.kind) kept deep.0)
 
     sort_good : (i : ℕ) (x : Placed) (d : Declaration) → sort_faults decls i x d ≡ [] → GoodDeclaration d
     sort_good i x (a_global g) h = global_good x.regions g h

@@ -27,7 +27,7 @@ use Rattle.st_rules.specs.Interfaces.{interfaces_in}
 use Rattle.st_rules.specs.Scope.{Scope, type_named}
 use Rattle.declared_names.specs.Declarations.{entries_in}
 use Rattle.declared_names.specs.UnitNames.{forgotten_type, unit_scope, entry_kind, entries_declared, types_declared, names_from, no_names, names_told, steps_needed, unit_names}
-use Rattle.declared_names.specs.WrittenTypes.{array_depth, array_of, dimensions, named_type, bound_value, element_written, arrays_of, type_written}
+use Rattle.declared_names.specs.WrittenTypes.{array_depth, dimensions_told, array_of, dimensions, named_type, bound_value, element_written, arrays_of, type_written}
 use Rattle.told_laws.specs.ToldLaws.{Every}
 use Rattle.unfolding_laws.proofs.ListLaws.{every_append, There, Behind, all_behind, behind_here, behind_next, behind_part}
 
@@ -114,11 +114,11 @@ module _ (decls : List (Decl ℕ)) where
   reference_numbered (Some _) h = tt
 
   array_numbered : (low high : Option ℤ) (o : Option StType) → ToldNumbered o → ToldNumbered (array_of low high o)
-  array_numbered (Some low) (Some high) (Some t) h = by (int_le low high) (nat_lt (array_depth t) 65)
+  array_numbered (Some low) (Some high) (Some t) h = by (int_le low high) (nat_lt (array_depth t) dimensions_told)
     where
-      by : (a b : Bool) → ToldNumbered (if a then (if b then Some (type.Array low high t) else None) else None)
+      by : (a b : Bool) → ToldNumbered (if a then Some (if b then type.Array low high t else t) else None)
       by true true = numbered_array low high t h
-      by true false = tt
+      by true false = h
       by false b = tt
   array_numbered (Some low) (Some high) None h = tt
   array_numbered (Some low) None o h = tt

@@ -9,7 +9,10 @@ use Rattle.st_tree.specs.declared.unit.Decl.{Decl}
 use Rattle.st_tree.specs.declared.unit.Decl.TheVariants as declaration
 use Rattle.st_rules.specs.declared.names.DeclaredVariable.{DeclaredVariable}
 use Rattle.st_rules.specs.Calls.{is_parameter}
-use Rattle.st_rules.specs.declared.names.DeclaredNames.{DeclaredNames}
+use Rattle.st_rules.specs.Modifiers.{method_access, is_abstract}
+use Rattle.st_tree.specs.declared.declaration.Modifier.{Modifier}
+use Rattle.st_tree.specs.declared.declaration.Section.{Section}
+use Rattle.st_tree.specs.declared.type_spec.TypeSpec.{TypeSpec}
 use Rattle.st_rules.specs.declared.names.DeclaredType.{DeclaredType}
 use Rattle.st_rules.specs.declared.names.TypeParts.{TypeParts}
 use Rattle.st_rules.specs.declared.names.DeclaredClass.{DeclaredClass}
@@ -20,11 +23,15 @@ use Rattle.st_rules.specs.Interfaces.{interfaces_in}
 use Rattle.st_rules.specs.Scope.{Scope}
 use Rattle.st_rules.proofs.ListLaws.{drop-at, drop-end}
 use Rattle.declared_names.specs.Declarations.{entries_in}
-use Rattle.declared_names.specs.UnitNames.{types_declared, parts_declared, method_declared, interface_declared, globals_from, names_from}
+use Rattle.declared_names.specs.UnitNames.{types_declared, parts_declared, method_declared, interface_declared, globals_from, names_from, locals_of, result_written, routine_declared}
+use Rattle.told_laws.specs.ToldLaws.{Every, TellsKind}
+use Rattle.told_laws.proofs.Tells.{locals-of-tell}
 use Rattle.constant_values.specs.ValueLaws.{ValuesHaveTypes}
 use Rattle.told_locals.proofs.ScopeLaws.{scope-laws}
+use Rattle.told_locals.specs.Around.{scope_around}
+use Rattle.told_locals.specs.declared.around.Around.{Around}
 use Rattle.unit_names.specs.declared.known.Known.{Known}
-use Rattle.unit_names.specs.Private.Known.{scope_in, IsKnown, decls_of, names_of, classes_from}
+use Rattle.unit_names.specs.Private.Known.{scope_in, within, IsKnown, decls_of, names_of, classes_from}
 
 -- the values of constants have types in the scopes of a unit
 pub known_values : (k : Known) (c : Option ℕ) (m : Bool) (s : Scope) → IsKnown k → s ≡ scope_in k c m → ValuesHaveTypes s
@@ -102,3 +109,16 @@ all_declared k ds types parts classes interfaces globals e t p c i g = whole
 
     whole : record { types = types; parts = parts; classes = classes; interfaces = interfaces; globals = globals } ≡ names_from (decls_of k) (names_of k)
     whole = λ j. record { types = types-are j; parts = parts-are j; classes = classes-are j; interfaces = interfaces-are j; globals = globals-are j }
+
+-- ---- routines
+
+module _ (a : Around) (name : List ℕ) (result : Option (TypeSpec ℕ)) (ss : List (Section ℕ)) (vs : List DeclaredVariable) (e : vs ≡ locals_of (scope_around a) name result ss) where
+  pub locals_tell : Every TellsKind vs
+  locals_tell = subst (Every TellsKind) (sym e) (locals-of-tell (scope_around a) name result ss)
+
+  pub routine_is : (modifiers : List Modifier) (r : DeclaredRoutine) → r.name ≡ name → r.access ≡ method_access modifiers → r.abstract_method ≡ is_abstract modifiers → r.outcome ≡ result_written (within a vs) result
+      → r.parameters ≡ filter is_parameter vs → r ≡ routine_declared (scope_around a) name modifiers result ss
+  routine_is modifiers r n c b o p =
+      let out : r.outcome ≡ result_written (within a (locals_of (scope_around a) name result ss)) result = o ∙ ap (λ ws. result_written (within a ws) result) e in
+      let parts : r.parameters ≡ filter is_parameter (locals_of (scope_around a) name result ss) = p ∙ ap (filter is_parameter) e in
+      λ i. record { name = n i; access = c i; abstract_method = b i; outcome = out i; parameters = parts i }

@@ -5,9 +5,9 @@ ghost use Rattle.st_rules.specs.Calls as calls;
 ghost use Rattle.st_rules.specs.Classes.{methods_in};
 ghost use Rattle.st_rules.specs.Interfaces.{interfaces_in};
 ghost use Rattle.declared_names.specs.UnitNames as unit_names;
-ghost use Rattle.constant_values.specs.ValueLaws.{ValuesHaveTypes};
+ghost use Rattle.told_laws.specs.ToldLaws.{Every, TellsKind};
 ghost use Rattle.told_locals.specs.Around.{IsAround, scope_around};
-ghost use Rattle.unit_names.specs.Private.Known.{IsKnown, decls_of, names_of, scope_in};
+ghost use Rattle.unit_names.specs.Private.Known.{IsKnown, decls_of, names_of, within};
 
 use crate::known::{Known, around};
 use plc_series::Series;
@@ -84,14 +84,16 @@ fn parameters(
     Ok(list)
 }
 
-/// The result of a routine, in the scope around it.
+/// The result of a routine with these locals.
 fn outcome(
     alloc: Global,
     around: &Around<'_>,
+    locals: &[DeclaredVariable],
     of: &Option<TypeSpec<u32>>,
 ) -> Result<ResultType, NoMemory>
-    requires { IsAround around.now }
-    ensures { IfOk result (λ r. r ≡ unit_names.result_written (scope_around around.now) of.now) }
+    requires around { IsAround around.now }
+    requires kinds { Every TellsKind locals.now }
+    ensures { IfOk result (λ r. r ≡ unit_names.result_written (within around.now locals.now) of.now) }
 {
     match of {
         None => Ok(ResultType::Nothing),
@@ -101,7 +103,7 @@ fn outcome(
                 around.names,
                 around.classes,
                 around.interfaces,
-                &[],
+                locals,
                 around.class,
                 around.in_method,
             )?;
@@ -111,7 +113,8 @@ fn outcome(
     }
 }
 
-/// A function, a method, or a method of an interface, with the words before it, its result and its sections.
+/// A function, a method, or a method of an interface, with the words before it, its result and its sections. The type of the result is
+/// written in the routine, whose constants are seen in it.
 pub fn declared_routine(
     alloc: Global,
     around: &Around<'_>,
@@ -124,9 +127,10 @@ pub fn declared_routine(
     ensures { IfOk result (λ r. r ≡ unit_names.routine_declared (scope_around around.now) name.now.text modifiers.now of.now sections.now) }
 {
     let text = Text::copy(alloc, name.text.as_str())?;
-    let outcome = outcome(alloc, around, of)?;
-    let locals = told_locals(alloc, around, &Declaring::Routine(name, of, sections))?;
-    let parameters = parameters(alloc, locals.as_slice())?;
+    let list = told_locals(alloc, around, &Declaring::Routine(name, of, sections))?;
+    let locals = list.as_slice();
+    let outcome = outcome(alloc, around, locals, of)?;
+    let parameters = parameters(alloc, locals)?;
     Ok(DeclaredRoutine {
         name: text,
         access: method_access(modifiers),

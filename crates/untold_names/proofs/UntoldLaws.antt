@@ -187,7 +187,7 @@ outcome-is s (Some t) = refl
 
 routine-is : (s : Scope) (name : List ℕ) (modifiers : List Modifier) (result : Option (TypeSpec ℕ)) (ss : List (Section ℕ)) → forgotten_routine (routine_declared s name modifiers result ss) ≡ untold_routine name modifiers result ss
 routine-is s name modifiers result ss =
-    let o = outcome-is s result in
+    let o = outcome-is (record s { locals = locals_of s name result ss }) result in
     let p = locals-of-are s name result ss in
     λ i. record { name = name; access = method_access modifiers; abstract_method = is_abstract modifiers; outcome = o i; parameters = p i }
 

@@ -84,7 +84,6 @@ fn item_of(
     let CheckedType {
         kind: _,
         least: of_kind,
-        too_many: _,
         tree,
     } = kind;
     let CheckedGiven {

@@ -24,12 +24,7 @@ pub struct CheckedResult {
 fn result_of(line: u32, found: CheckedType) -> CheckedResult
     ensures { IsResult result line found }
 {
-    let CheckedType {
-        kind,
-        least,
-        too_many: _,
-        tree,
-    } = found;
+    let CheckedType { kind, least, tree } = found;
     let place = instance_out_of_place(line, false, &kind);
     CheckedResult {
         least: earlier(least, place),

@@ -1,5 +1,5 @@
 -- The value of a constant expression from its typed tree and the rules that it breaks.
-use Rattle.std.proofs.Common.{◌≡◌, ℕ, ℤ, Bool, true, false, List, [], ◌∷◌, ◌++◌, Option, Some, None, refl, sym, ap, ◌∙◌}
+use Rattle.std.proofs.Common.{◌≡◌, ℕ, ℤ, Bool, true, false, [], ◌∷◌, ◌++◌, Option, Some, None, refl, sym, ap, ◌∙◌}
 use Rattle.std.specs.Prelude.{if◌then◌else◌, option_map, option_and_then}
 use Rattle.plc_text.specs.declared.code.Code.{Code}
 use Rattle.st_types.specs.declared.st_type.StType.{StType}
@@ -10,10 +10,11 @@ use Rattle.st_tree.specs.Initial as initial
 use Rattle.st_rules.specs.declared.asked.Asked.{Asked}
 use Rattle.st_rules.specs.declared.asked.Asked.TheVariants.{Anything, Wanted}
 use Rattle.st_rules.specs.Faults.{Faults, earlier, least}
-use Rattle.st_rules.specs.Expressions.{line_of, type_of, faults, typed, expression_faults, too_many_operators}
+use Rattle.st_rules.specs.Expressions.{line_of, type_of, faults, typed}
 use Rattle.st_rules.specs.Calls.{value_unsuited}
 use Rattle.st_rules.specs.Scope.{Scope}
-use Rattle.declared_names.specs.Constants.{Outcome, comes_to, divides_by_zero, cannot_be_told, if_none, constant_value, constant_faults, told_value, names_are_told, no_constant_part, zero_divisor}
+use Rattle.st_rules.proofs.FaultLaws.{least-append}
+use Rattle.declared_names.specs.Constants.{Outcome, comes_to, divides_by_zero, cannot_be_told, if_none, constant_value, value_faults, told_value, names_are_told, no_constant_part, zero_divisor}
 use Rattle.declared_names.specs.WrittenTypes.{is_number_type, bound_value, type_written}
 use Rattle.declared_names.specs.Variables.{Written, may_be_constant, value_given, constant_of}
 use Rattle.constant_values.specs.Noted.{noted_value}
@@ -50,22 +51,29 @@ module _ (s : Scope) where
 
   pub value-untold : (asked : Asked) (e : Expression ℕ) (b : Bool) → b ≡ names_are_told s e → b ≡ false → None ≡ told_value s asked e
   unfolding told_value
-  value-untold asked e b h f = sym (ap (λ b. if b then if_none (constant_faults s asked e) (constant_value s asked e) else None) (sym h ∙ f))
+  value-untold asked e b h f = sym (ap (λ b. if b then if_none (value_faults s asked e) (constant_value s asked e) else None) (sym h ∙ f))
 
-  pub value-told : (asked : Asked) (e : Expression ℕ) (b : Bool) (r : Option ℤ) (x : Option (Code × ℕ)) (t : Expression Note) → b ≡ names_are_told s e → b ≡ true → x ≡ least (expression_faults s asked e) → t ≡ typed s asked e
-      → r ≡ found_value x (least (no_constant_part s e)) (noted_value t) → ValuesHaveTypes s → AsksForTold asked → r ≡ told_value s asked e
-  unfolding told_value constant_faults
-  value-told asked e b r x t h q f m k w a =
+  abbrev early-faults : Asked → Expression ℕ → Faults
+  early-faults asked e = faults s asked e ++ value_unsuited s (line_of e) asked (type_of s asked e)
+
+  pub value-told : (asked : Asked) (e : Expression ℕ) (b : Bool) (r : Option ℤ) (x : Option (Code × ℕ)) (u : Option StType) (t : Expression Note) → b ≡ names_are_told s e → b ≡ true → u ≡ type_of s asked e → x ≡ least (faults s asked e) → t ≡ typed s asked e
+      → r ≡ found_value (earlier x (least (value_unsuited s (line_of e) asked u))) (least (no_constant_part s e)) (noted_value t) → ValuesHaveTypes s → AsksForTold asked → r ≡ told_value s asked e
+  unfolding told_value
+  value-told asked e b r x u t h q g f m k w a =
       k
-      ∙ ap (λ y. found_value y (least (no_constant_part s e)) (noted_value t)) f
-      ∙ ap (λ y. found_value (least (expression_faults s asked e)) (least (no_constant_part s e)) (noted_value y)) m
-      ∙ found-is (expression_faults s asked e) (no_constant_part s e) (constant_value s asked e) (noted_value (typed s asked e)) same
-      ∙ sym (ap (λ b. if b then if_none (expression_faults s asked e ++ no_constant_part s e ++ zero_divisor s (constant_value s asked e)) (constant_value s asked e) else None) (sym h ∙ q))
+      ∙ ap (λ y. found_value y (least (no_constant_part s e)) (noted_value t)) early
+      ∙ ap (λ y. found_value (least (early-faults asked e)) (least (no_constant_part s e)) (noted_value y)) m
+      ∙ found-is (early-faults asked e) (no_constant_part s e) (constant_value s asked e) (noted_value (typed s asked e)) same
+      ∙ sym (ap (λ b. if b then if_none (early-faults asked e ++ no_constant_part s e ++ zero_divisor s (constant_value s asked e)) (constant_value s asked e) else None) (sym h ∙ q))
     where
-      same : expression_faults s asked e ≡ [] → no_constant_part s e ≡ [] → noted_value (typed s asked e) ≡ constant_value s asked e
-      same g p =
-          let u = value_unsuited s (line_of e) asked (type_of s asked e) in
-          value-laws.value s asked e w a (sym h ∙ q) p (none-of (faults s asked e) u (none-of (faults s asked e ++ u) (too_many_operators e) g).0).0
+      early : earlier x (least (value_unsuited s (line_of e) asked u)) ≡ least (early-faults asked e)
+      early =
+          ap (λ y. earlier y (least (value_unsuited s (line_of e) asked u))) f
+          ∙ ap (λ y. earlier (least (faults s asked e)) (least (value_unsuited s (line_of e) asked y))) g
+          ∙ sym (least-append (faults s asked e) (value_unsuited s (line_of e) asked (type_of s asked e)))
+
+      same : early-faults asked e ≡ [] → no_constant_part s e ≡ [] → noted_value (typed s asked e) ≡ constant_value s asked e
+      same g p = value-laws.value s asked e w a (sym h ∙ q) p (none-of (faults s asked e) (value_unsuited s (line_of e) asked (type_of s asked e)) g).0
 
   -- ---- bounds
 

@@ -1,6 +1,6 @@
 //! Arrays in one another.
 
-ghost use Rattle.std.specs.Prelude.{◌≡◌, ℕ, Some, nat_lt, IfOk};
+ghost use Rattle.std.specs.Prelude.{◌≡◌, Some, IfOk};
 ghost use Rattle.st_tree.specs.Expression.{expression_of};
 ghost use Rattle.declared_names.specs.WrittenTypes as written;
 ghost use Rattle.constant_values.specs.ValueLaws.{ValuesHaveTypes};
@@ -8,28 +8,17 @@ ghost use Rattle.written_types.specs.Private.Values as own;
 
 use crate::values::bound_value;
 use constant_rules::st_scope::Scope;
+use declared_names::has_fewer_dimensions;
 use plc_text::NoMemory;
 use st_tree::{ArraySpec, Bounds};
 use st_types::{Boxed, StType};
 use std::alloc::Global;
 
-/// Whether fewer than so many arrays lie in one another, with the outermost one.
-fn has_room(kind: &StType, most: u32) -> bool
-    ensures { result ≡ nat_lt (written.array_depth kind.now) most }
-{
-    match kind {
-        StType::Array(_, _, of) => most > 1 && has_room(of.get(), most - 1),
-        StType::Elementary(_) => most > 0,
-        StType::Enumeration(_) => most > 0,
-        StType::Structure(_) => most > 0,
-        StType::Instance(_) => most > 0,
-        StType::Reference(_) => most > 0,
-        StType::Interface(_) => most > 0,
-    }
-}
+/// Of a type with more dimensions than these, the innermost are told.
+const DIMENSIONS_TOLD: u32 = 66;
 
 /// An array between two bounds, where it can be told.
-fn array_of(
+pub fn array_of(
     alloc: Global,
     low: Option<i128>,
     high: Option<i128>,
@@ -46,8 +35,8 @@ fn array_of(
     if low > high {
         return Ok(None);
     }
-    if !has_room(&of, 65) {
-        return Ok(None);
+    if !has_fewer_dimensions(&of, DIMENSIONS_TOLD) {
+        return Ok(Some(of));
     }
     let of = Boxed::new(alloc, of)?;
     Ok(Some(StType::Array(low, high, of)))

@@ -6,6 +6,7 @@ mod constants;
 mod types;
 mod values;
 
+pub use arrays::array_of;
 pub use constant_rules::{iface_tables, st_places, st_scope};
 pub use constant_values;
 pub use constants::constant_of;

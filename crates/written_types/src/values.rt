@@ -2,9 +2,9 @@
 
 ghost use Rattle.std.specs.Prelude.{◌≡◌, None, IfOk};
 ghost use Rattle.st_tree.specs.Expression.{expression_of};
-ghost use Rattle.st_rules.specs.Expressions as expressions;
-ghost use Rattle.st_rules.specs.Faults.{least};
-ghost use Rattle.st_check_expr.specs.Found.{Finds};
+ghost use Rattle.st_rules.specs.Calls as calls;
+ghost use Rattle.st_rules.specs.Expressions.{line_of};
+ghost use Rattle.st_rules.specs.Faults.{earlier, least};
 ghost use Rattle.declared_names.specs.Constants as constants;
 ghost use Rattle.declared_names.specs.WrittenTypes as written;
 ghost use Rattle.constant_values.specs.Outcome.{outcome};
@@ -16,10 +16,11 @@ use constant_rules::constant_part_fault;
 use constant_rules::st_scope::Scope;
 use constant_values::{Outcome, noted_value};
 use plc_text::{Code, NoMemory};
-use st_check_expr::check_whole;
-use st_check_expr::st_expr_parts::Checked;
+use st_check_expr::check;
+use st_check_expr::st_calls::value_fault;
+use st_check_expr::st_expr_parts::{Checked, line_of};
 use st_operators::is_number;
-use st_rules::Asked;
+use st_rules::{Asked, earlier};
 use st_tree::Expr;
 use st_types::StType;
 use std::alloc::Global;
@@ -46,16 +47,17 @@ fn found_value(
     }
 }
 
-/// The value of a checked expression, where it breaks no rule of constants.
-fn value_of(s: &Scope<'_>, e: &Expr<u32>, checked: &Checked) -> Option<i128>
-    ensures { result ≡ own.found_value checked.now.least (least (constants.no_constant_part s.now (expression_of e.now))) (value_noted (expression_of checked.now.tree)) }
+/// The value of an expression that was checked at a place that asks for something, where it breaks no rule of values.
+fn value_of(s: &Scope<'_>, e: &Expr<u32>, asked: &Asked, checked: &Checked) -> Option<i128>
+    ensures { result ≡ own.found_value (earlier checked.now.least (least (calls.value_unsuited s.now (line_of (expression_of e.now)) asked.now checked.now.told))) (least (constants.no_constant_part s.now (expression_of e.now))) (value_noted (expression_of checked.now.tree)) }
 {
+    let of_value = value_fault(s, line_of(e), asked, &checked.told);
     let part = constant_part_fault(s, e);
     let value = noted_value(&checked.tree);
-    found_value(checked.least, part, value)
+    found_value(earlier(checked.least, of_value), part, value)
 }
 
-/// The value of a constant expression, where all its names are told and it breaks no rule.
+/// The value of a constant expression, where all its names are told and it breaks no rule but the limit of operators.
 pub fn told_value(
     alloc: Global,
     s: &Scope<'_>,
@@ -67,8 +69,8 @@ pub fn told_value(
     if !names_are_told(s, e) {
         return Ok(None);
     }
-    let checked = check_whole(alloc, s, e, asked)?;
-    let value = value_of(s, e, &checked);
+    let checked = check(alloc, s, e, asked)?;
+    let value = value_of(s, e, asked, &checked);
     Ok(value)
 }
 
@@ -90,10 +92,10 @@ pub fn bound_value(alloc: Global, s: &Scope<'_>, e: &Expr<u32>) -> Result<Option
     if !names_are_told(s, e) {
         return Ok(None);
     }
-    let checked = check_whole(alloc, s, e, &Asked::Anything)?;
+    let checked = check(alloc, s, e, &Asked::Anything)?;
     if !is_number_type(&checked.told) {
         return Ok(None);
     }
-    let value = value_of(s, e, &checked);
+    let value = value_of(s, e, &Asked::Anything, &checked);
     Ok(value)
 }

@@ -1,11 +1,9 @@
 -- Constants of a class or a routine by name, and what they need.
-use Rattle.std.specs.Prelude.{◌≡◌, ℕ, suc, nat_eq, cond, Bool, ◌&&◌, if◌then◌else◌, List, [], ◌∷◌, ◌++◌, filter_map, length, Option, Some, None, option_map, slice_get}
-use Rattle.std.proofs.Common.{Bor}
+use Rattle.std.specs.Prelude.{◌≡◌, ℕ, nat_eq, cond, Bool, ◌&&◌, if◌then◌else◌, List, [], ◌∷◌, ◌++◌, flat_map, filter_map, Option, Some, None, option_map}
 use Rattle.std.specs.Cmp.Lexicographic.{pointwise}
 use Rattle.std.specs.HashMap.{HashMap, get}
 use Rattle.std.specs.declared.hash.FoldHasher.{FoldHasher}
 use Rattle.std.specs.declared.hash.BuildHasherDefault.{BuildHasherDefault}
-use Rattle.plc_text.specs.Words.{same}
 use Rattle.plc_text.specs.declared.code.Code.TheVariants.{E06}
 use Rattle.st_tree.specs.declared.declaration.Item.{Item}
 use Rattle.st_tree.specs.Initial.{initial_of}
@@ -13,20 +11,16 @@ use Rattle.st_rules.specs.Faults.{Faults, when}
 use Rattle.st_rules.specs.Numbered.{each_numbered}
 use Rattle.declared_names.specs.Variables.{Written}
 use Rattle.declared_names.specs.Declarations.{item_line}
-use Rattle.st_unit_rules.specs.Cycles.{names_in_bounds, names_in_value, inner_needed, lies_on_cycle}
+use Rattle.st_unit_rules.specs.Cycles.{Named, alone, before_dot, before_hash, named_in_bounds, named_in_value, inner_from, needs_inner}
 use Rattle.graph_cycles.specs.Graph.{marked}
 use Rattle.declaration_list.specs.declared.written.WrittenName.{WrittenName}
 use Rattle.declaration_list.specs.Written.{written_of}
-use Rattle.declared_graph.specs.Private.Edges.{told}
+use Rattle.declared_graph.specs.declared.names.Named.{Named as Lent}
+use Rattle.declared_graph.specs.Private.Names.{named_as}
 
 -- a place, where a constant stands there
 abbrev pub inner_constant : Bool → ℕ → Option ℕ
 inner_constant constant i = if constant then Some i else None
-
--- the place of the first of the name, if that is a constant
-abbrev pub inner_from : List ℕ → ℕ → List Written → Option ℕ
-inner_from name i [] = None
-inner_from name i (x ∷ xs) = if same x.name.text name then inner_constant x.constant i else inner_from name (suc i) xs
 
 abbrev pub InnerTable : Type 0
 InnerTable = HashMap (List ℕ) (Option ℕ) (BuildHasherDefault FoldHasher)
@@ -49,11 +43,16 @@ abbrev pub is_first_name : WrittenName → Bool
 is_first_name w = w.first
 
 module _ (table : InnerTable) where
-  abbrev pub named_by : Bor (List ℕ) → List ℕ
-  named_by name = told (inner_found table name.now)
+  abbrev pub found_for : Named → List ℕ
+  found_for (alone name) = filter_map (inner_found table) (name ∷ [])
+  found_for (before_dot name) = filter_map (inner_found table) (name ∷ [])
+  found_for (before_hash l name) = []
+
+  abbrev pub found_for_lent : Lent → List ℕ
+  found_for_lent n = found_for (named_as n)
 
   abbrev pub needed_by_item : Item ℕ → List ℕ
-  needed_by_item item = filter_map (inner_found table) (names_in_bounds item.kind ++ names_in_value (option_map initial_of item.initial))
+  needed_by_item item = flat_map found_for (named_in_bounds item.kind ++ named_in_value (option_map initial_of item.initial))
 
   -- once for all names of an item
   abbrev pub needed_of : WrittenName → List ℕ
@@ -68,4 +67,4 @@ marked_faults marks ws = each_numbered (marked_fault marks) 0 ws
 
 -- those that need themselves are marked
 pub record OnCycles (marks : List Bool) (ws : List Written) : Type 0 where
-  pub on : (i : ℕ) → marked marks i ≡ lies_on_cycle (λ k. inner_needed ws (slice_get ws k)) (length ws) i
+  pub on : (i : ℕ) → marked marks i ≡ needs_inner ws i

@@ -1,34 +1,37 @@
--- Names in parts of expressions and types.
-use Rattle.std.specs.Prelude.{ℕ, List, [], ◌∷◌, ◌++◌, map, flat_map}
-use Rattle.std.proofs.Common.{Bor}
+-- What the code lends of texts, and what parts of texts name.
+use Rattle.std.specs.Prelude.{ℕ, Bool, true, false, if◌then◌else◌, List, ◌++◌, map, flat_map}
 use Rattle.st_tree.specs.declared.expression.Root.{Root}
-use Rattle.st_tree.specs.declared.expression.Root.TheVariants as root
 use Rattle.st_tree.specs.declared.type_spec.ArraySpec.{ArraySpec}
 use Rattle.st_tree.specs.declared.type_spec.Bounds.{Bounds}
-use Rattle.st_tree.specs.Expression.{Argument, Positional, Input, Output, Selectors, no_selectors, expression_of}
-use Rattle.st_tree.specs.Initial.{Initial, Value}
-use Rattle.st_unit_rules.specs.Cycles.{names_in}
+use Rattle.st_tree.specs.Expression.{Selector, Field, Selectors, expression_of}
+use Rattle.st_rules.specs.Faults.{Faults}
+use Rattle.st_unit_rules.specs.Cycles.{Named, alone, before_dot, before_hash, named_by_root, named_in, named_in_selectors, own_value}
+use Rattle.declared_graph.specs.declared.names.Named.{Named as Lent}
+use Rattle.declared_graph.specs.declared.names.Named.TheVariants as lent
 
--- texts, as the code lends them
-abbrev pub texts_of : List (Bor (List ℕ)) → List (List ℕ)
-texts_of ts = map (λ t. t.now) ts
+abbrev pub named_as : Lent → Named
+named_as (lent.Alone name) = alone name.now
+named_as (lent.BeforeDot name) = before_dot name.now
+named_as (lent.BeforeHash l name) = before_hash l name.now
 
--- the name of a place that is a name alone
-abbrev pub bare_name : Root ℕ → Selectors ℕ → List (List ℕ)
-bare_name (root.Name k name) no_selectors = name ∷ []
-bare_name _ _ = []
+abbrev pub all_named : List Lent → List Named
+all_named ns = map named_as ns
 
-abbrev pub argument_names : Argument ℕ → List (List ℕ)
-argument_names (Positional e) = names_in e
-argument_names (Input l n e) = names_in e
-argument_names (Output l n k r ss) = []
+abbrev pub is_field : Selector ℕ → Bool
+is_field (Field l name) = true
+is_field _ = false
 
-abbrev pub names_in_bound : Bounds ℕ → List (List ℕ)
-names_in_bound b = names_in (expression_of b.low) ++ names_in (expression_of b.high)
+abbrev pub named_with : Bool → List ℕ → Named
+named_with dot name = if dot then before_dot name else alone name
 
-abbrev pub names_in_arrays : List (ArraySpec ℕ) → List (List ℕ)
-names_in_arrays as' = flat_map (λ a. flat_map names_in_bound a.bounds) as'
+abbrev pub named_in_place : Root ℕ → Selectors ℕ → List Named
+named_in_place r ss = named_by_root r ss ++ named_in_selectors ss
 
-abbrev pub names_in_initial : Initial ℕ → List (List ℕ)
-names_in_initial (Value e) = names_in e
-names_in_initial _ = []
+abbrev pub named_in_bound : Bounds ℕ → List Named
+named_in_bound b = named_in (expression_of b.low) ++ named_in (expression_of b.high)
+
+abbrev pub named_in_arrays : List (ArraySpec ℕ) → List Named
+named_in_arrays as' = flat_map (λ a. flat_map named_in_bound a.bounds) as'
+
+abbrev pub own_value_lent : List ℕ → Lent → Faults
+own_value_lent name n = own_value name (named_as n)

@@ -1,5 +1,5 @@
 -- Arrays of a type, from what is told of the innermost one's elements.
-use Rattle.std.specs.Prelude.{◌≡◌, ℕ, ◌||◌, List, [], ◌∷◌, ◌++◌, flat_map, reverse, Option}
+use Rattle.std.specs.Prelude.{◌≡◌, ℕ, List, [], ◌∷◌, ◌++◌, flat_map, reverse, Option}
 use Rattle.st_types.specs.declared.st_type.StType.{StType}
 use Rattle.st_tree.specs.declared.program.Note.{Note}
 use Rattle.st_tree.specs.declared.program.Target.TheVariants as target
@@ -8,7 +8,7 @@ use Rattle.st_tree.specs.declared.type_spec.Bounds.{Bounds}
 use Rattle.st_rules.specs.Faults.{least, earlier}
 use Rattle.st_rules.specs.Scope.{Scope}
 use Rattle.st_rules.specs.Expressions.{note}
-use Rattle.declared_names.specs.WrittenTypes.{arrays_of, dimension_faults, too_many_arrays}
+use Rattle.declared_names.specs.WrittenTypes.{arrays_of, dimension_faults}
 use Rattle.st_unit_rules.specs.Checked.{Each, TypedBounds}
 use Rattle.type_rules.specs.declared.arrays.Arrays.{Arrays}
 use Rattle.type_rules.specs.declared.arrays.Around.{Around}
@@ -27,7 +27,6 @@ TypedAround s of _ _ = ⊥
 pub record IsAround (x : Around) (s : Scope) (a : ArraySpec ℕ) (inner : Told) : Type 0 where
   pub kind : x.told.kind ≡ arrays_of s a.bounds inner.kind
   pub least : x.told.least ≡ earlier (least (flat_map (dimension_faults s) a.bounds)) inner.least
-  pub too_many : x.told.too_many ≡ (too_many_arrays s a.bounds inner.kind || inner.too_many)
   pub note : x.array.note ≡ note a.note x.told.kind target.Nothing
   pub bounds : Each (TypedBounds s) a.bounds x.array.bounds
 
@@ -39,5 +38,4 @@ pub record AddsArray (x : Arrays) (before : List (ArraySpec Note)) (around : Aro
 pub record ArraysFind (x : Arrays) (s : Scope) (all : List (ArraySpec ℕ)) (inner : Told) : Type 0 where
   pub kind : x.told.kind ≡ arrays_of s (bounds_of all) inner.kind
   pub least : x.told.least ≡ earlier (least (flat_map (dimension_faults s) (bounds_of all))) inner.least
-  pub too_many : x.told.too_many ≡ (too_many_arrays s (bounds_of all) inner.kind || inner.too_many)
   pub arrays : TypedAround s inner.kind all (reverse x.arrays.items)

@@ -1,6 +1,5 @@
 -- Bounds of arrays, from what is found out about their expressions.
-use Rattle.std.specs.Prelude.{◌≡◌, ℕ, ℤ, int_le, Bool, true, false, not, Option, Some, None}
-use Rattle.plc_text.specs.declared.code.Code.{Code}
+use Rattle.std.specs.Prelude.{◌≡◌, ℕ, ℤ, int_le, Bool, false, not, if◌then◌else◌, Option, Some, None}
 use Rattle.plc_text.specs.declared.code.Code.TheVariants.{E13}
 use Rattle.st_tree.specs.declared.type_spec.Bounds.{Bounds}
 use Rattle.st_tree.specs.Expression.{Expression, expression_of}
@@ -8,7 +7,6 @@ use Rattle.st_rules.specs.declared.asked.Asked.TheVariants.{Anything}
 use Rattle.st_rules.specs.Faults.{least, earlier, when}
 use Rattle.st_rules.specs.Scope.{Scope}
 use Rattle.st_rules.specs.Expressions.{index_unsuited}
-use Rattle.declared_names.specs.Constants.{Outcome, comes_to}
 use Rattle.declared_names.specs.WrittenTypes.{is_number_type, bound_value, bound_faults, dimension_faults}
 use Rattle.st_unit_rules.specs.Initials.{outcome_target, with_note, typed_constant}
 use Rattle.st_unit_rules.specs.Checked.{TypedBounds}
@@ -18,17 +16,16 @@ use Rattle.initial_rules.specs.Worth.{noted}
 use Rattle.type_rules.specs.declared.bounds.CheckedBound.{CheckedBound}
 use Rattle.type_rules.specs.declared.bounds.CheckedDimension.{CheckedDimension}
 
--- the value of a number whose names are all told, where no rule is broken
-abbrev pub bound_found : Bool → Bool → Option (Code × ℕ) → Outcome → Option ℤ
-bound_found true true None (comes_to z) = Some z
-bound_found _ _ _ _ = None
+-- a number whose names are all told
+abbrev pub bound_found : Bool → Bool → Option ℤ → Option ℤ
+bound_found is_number told z = if is_number then (if told then z else None) else None
 
 abbrev pub lies_above : Option ℤ → Option ℤ → Bool
 lies_above (Some low) (Some high) = not (int_le low high)
 lies_above _ _ = false
 
 pub record IsBound (b : CheckedBound) (line : ℕ) (told : Bool) (c : Constant) : Type 0 where
-  pub value : b.value ≡ bound_found (is_number_type c.told) told c.least (outcome c.value)
+  pub value : b.value ≡ bound_found (is_number_type c.told) told c.number
   pub least : b.least ≡ earlier c.least (least (index_unsuited line c.told))
   pub tree : expression_of b.tree ≡ with_note (noted (outcome_target (outcome c.value))) (expression_of c.tree)
 

@@ -1,5 +1,6 @@
 -- What the innermost array of a type is of.
-use Rattle.std.specs.Prelude.{◌≡◌, ℕ, Bool, false, not, List, Option, Some, None, option_and_then}
+use Rattle.std.specs.Prelude.{◌≡◌, ℕ, Bool, false, not, ◌&&◌, List, Option, Some, None, option_and_then}
+use Rattle.std.specs.Option.{is_some}
 use Rattle.plc_text.specs.declared.code.Code.TheVariants.{E07}
 use Rattle.st_types.specs.declared.elem.Elem.{Elem}
 use Rattle.st_types.specs.declared.st_type.StType.{StType}
@@ -11,14 +12,13 @@ use Rattle.st_rules.specs.Faults.{least, earlier, when}
 use Rattle.st_rules.specs.Kinds.{is_instance}
 use Rattle.st_rules.specs.Scope.{Scope}
 use Rattle.st_rules.specs.Expressions.{note, reference_to}
-use Rattle.declared_names.specs.WrittenTypes.{named_type, element_written, type_not_found, element_faults}
+use Rattle.declared_names.specs.WrittenTypes.{type_declared, named_type, element_written, type_not_found, element_faults}
 use Rattle.st_unit_rules.specs.Checked.{TypedElement}
 use Rattle.type_rules.specs.declared.elements.CheckedElement.{CheckedElement}
 
--- a type that is told and is none of instances
-abbrev pub is_no_instance : Option StType → Bool
-is_no_instance None = false
-is_no_instance (Some t) = not (is_instance t)
+abbrev pub is_instance_told : Option StType → Bool
+is_instance_told None = false
+is_instance_told (Some t) = is_instance t
 
 pub record IsElementary (c : CheckedElement) (line : ℕ) (e : Elem) : Type 0 where
   pub kind : c.kind ≡ Some (type.Elementary e)
@@ -32,7 +32,7 @@ pub record IsNamed (c : CheckedElement) (s : Scope) (line : ℕ) (name : List �
 
 pub record IsReference (c : CheckedElement) (s : Scope) (line name_line : ℕ) (name : List ℕ) : Type 0 where
   pub kind : c.kind ≡ option_and_then reference_to (named_type s name)
-  pub least : c.least ≡ earlier (least (type_not_found s name_line name)) (least (when (is_no_instance (named_type s name)) E07 name_line))
+  pub least : c.least ≡ earlier (least (type_not_found s name_line name)) (least (when (is_some (type_declared s name) && not (is_instance_told (named_type s name))) E07 name_line))
   pub element : c.element ≡ spec.Reference (note line (option_and_then reference_to (named_type s name)) target.Nothing) (note name_line (named_type s name) target.Nothing) name
 
 pub record ElementChecks (c : CheckedElement) (s : Scope) (e : SimpleSpec ℕ) : Type 0 where

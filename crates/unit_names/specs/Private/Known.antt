@@ -8,6 +8,7 @@ use Rattle.st_tree.specs.declared.unit.Decl.{Decl}
 use Rattle.st_tree.specs.declared.unit.Decl.TheVariants as declaration
 use Rattle.st_rules.specs.declared.names.DeclaredField.{DeclaredField}
 use Rattle.st_rules.specs.declared.names.DeclaredNames.{DeclaredNames}
+use Rattle.st_rules.specs.declared.names.DeclaredVariable.{DeclaredVariable}
 use Rattle.st_rules.specs.declared.names.DeclaredClass.{DeclaredClass}
 use Rattle.st_rules.specs.Classes.{classes_in}
 use Rattle.st_rules.specs.Numbered.{each_numbered}
@@ -16,6 +17,8 @@ use Rattle.told_names.specs.Tables.{Knows}
 use Rattle.told_laws.specs.ToldLaws.{TellsKinds}
 use Rattle.declared_names.specs.WrittenTypes.{type_written}
 use Rattle.declared_names.specs.UnitNames.{unit_scope, class_declared}
+use Rattle.told_locals.specs.Around.{scope_around}
+use Rattle.told_locals.specs.declared.around.Around.{Around}
 use Rattle.unit_names.specs.declared.known.Known.{Known}
 
 abbrev pub decls_of : Known → List (Decl ℕ)
@@ -27,6 +30,10 @@ names_of k = k.names.now.names
 -- of a class or of none, of a method or not
 abbrev pub scope_in : Known → Option ℕ → Bool → Scope
 scope_in k c m = record (unit_scope (decls_of k) (names_of k)) { class = c; in_method = m }
+
+-- of a routine with its locals
+abbrev pub within : Around → List DeclaredVariable → Scope
+within a vs = record (scope_around a) { locals = vs }
 
 -- the tables know the unit, and tell the value of a constant only with its type
 pub record IsKnown (k : Known) : Type 0 where

@@ -1,9 +1,12 @@
 use Rattle.std.proofs.Common.{ℕ, Option, ap, ◌∙◌}
 use Rattle.plc_text.specs.declared.code.Code.{Code}
 use Rattle.st_rules.specs.Faults.{earlier}
+use Rattle.constant_values.specs.Outcome.{outcome}
+use Rattle.constant_faults.specs.Private.Found.{number_found}
 use Rattle.constant_faults.proofs.faults.constant_by.Goals as goal
 
 pub returns-clause-least : goal.returns-clause-least
-returns-clause-least c = λ s.
-    c.earlier-found.ensures ∙ ap (λ (y : Option (Code × ℕ)). earlier y c.divisor_fault.result) c.earlier.ensures
-    ∙ ap (earlier (earlier c.args.x.least c.args.of_parts)) (c.divisor_fault.ensures s)
+returns-clause-least c = λ s. c.earlier.ensures ∙ ap (λ (y : Option (Code × ℕ)). earlier y c.args.of_operators) (c.own_fault-own.ensures s)
+
+pub returns-clause-number : goal.returns-clause-number
+returns-clause-number c = λ s. c.number_of.ensures ∙ ap (λ (y : Option (Code × ℕ)). number_found y (outcome c.args.value)) (c.own_fault-own.ensures s)

@@ -10,5 +10,5 @@ returns-then-not-names_are_told c = value_untold _ _ _ _ c.names_are_told.ensure
 
 pub returns : goal.returns
 returns c =
-    value_told c.args.s.now c.asked_of-asked.result (expression_of c.args.e.now) _ c.names_are_told.ensures c.found_value-value.result c.if-not-names_are_told.false (c.found_value-value.ensures _ _ _ c.in_ok-constant.ensures)
+    value_told c.args.s.now c.asked_of-asked.result (expression_of c.args.e.now) _ c.names_are_told.ensures _ c.if-not-names_are_told.false c.in_ok-constant.ensures.number
     ∙ ap (λ a. told_value c.args.s.now a (expression_of c.args.e.now)) (c.asked_of-asked.ensures ∙ ap (λ t. asked_of (Some t)) c.in_ok-wanted.ensures)

@@ -1,13 +1,14 @@
-use Rattle.std.proofs.Common.{[], sym, ap, ◌∙◌}
+use Rattle.std.proofs.Common.{sym, ap, ◌∙◌}
 use Rattle.st_rules.specs.declared.signature.ResultType.TheVariants as outcome
 use Rattle.declared_names.specs.WrittenTypes.{type_written}
 use Rattle.declared_names.specs.UnitNames.{result_written}
-use Rattle.told_locals.specs.Around.{scope_around}
 use Rattle.told_locals.proofs.RoundLaws.{around-values}
+use Rattle.unit_names.specs.Private.Known.{within}
 use Rattle.unit_names.proofs.routines.outcome.Goals as goal
 
 pub returns-in_ok-kind-in-Some : goal.returns-in_ok-kind-in-Some
 returns-in_ok-kind-in-Some c =
     let a = c.args.around.now in
-    ap outcome.Written (c.in_ok-kind-in-Some.ensures (around-values a [] c.in_ok-s-in-Some.s c.requires tt c.in_ok-s-in-Some.ensures) ∙ ap (λ t. type_written t c.in-Some.spec) c.in_ok-s-in-Some.ensures)
-    ∙ ap (result_written (scope_around a)) (sym c.in-Some.is)
+    let vs = c.args.locals.now in
+    ap outcome.Written (c.in_ok-kind-in-Some.ensures (around-values a vs c.in_ok-s-in-Some.s c.requires.around c.requires.kinds c.in_ok-s-in-Some.ensures) ∙ ap (λ t. type_written t c.in-Some.spec) c.in_ok-s-in-Some.ensures)
+    ∙ ap (result_written (within a vs)) (sym c.in-Some.is)

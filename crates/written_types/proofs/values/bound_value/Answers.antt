@@ -11,4 +11,4 @@ returns-then-not-is_number_type c = λ w. bound-other c.args.s.now (expression_o
 pub returns : goal.returns
 returns c = λ w.
     bound-told c.args.s.now (expression_of c.args.e.now) _ _ _ c.in_ok-checked.ensures.told c.is_number_type.ensures c.if-not-is_number_type.false
-    (value-told _ _ _ _ _ _ _ c.names_are_told.ensures c.if-not-names_are_told.false c.in_ok-checked.ensures.least c.in_ok-checked.ensures.tree c.value_of-value.ensures w tt)
+    (value-told _ _ _ _ _ _ _ _ c.names_are_told.ensures c.if-not-names_are_told.false c.in_ok-checked.ensures.told c.in_ok-checked.ensures.least c.in_ok-checked.ensures.tree c.value_of-value.ensures w tt)

@@ -3,14 +3,14 @@ use Rattle.st_unit_rules.specs.Limits.{values_of}
 use Rattle.type_sizes.specs.declared.levels.Level.{Level}
 use Rattle.type_sizes.specs.Size.{capped}
 use Rattle.type_sizes.specs.Levels.{AreLevels}
+use Rattle.type_sizes.proofs.TellLaws.{values_counted}
 use Rattle.type_sizes.proofs.sizes.TypeSizes.values_of.Goals as goal
 
 pub returns-in-Some : goal.returns-in-Some
-unfolding values_of
 returns-in-Some c = λ s m.
     let same = c.deref.ensures.value in
     let long : 66 ≤ length c.deref.result.now = (let e = ap length same in let l = m.long in omega (arith, e, l)) in
-    (c.size_of.ensures s (subst (λ (ls : List Level). AreLevels s ls) (sym same) m.levels) long).values-are ∙ ap (λ k. capped (values_of s k)) (sym c.in-Some.is)
+    values_counted s c.size_of.result c.in-Some.kind c.counted.result c.counted.ensures (c.size_of.ensures s (subst (λ (ls : List Level). AreLevels s ls) (sym same) m.levels) long) ∙ ap (λ k. capped (values_of s k)) (sym c.in-Some.is)
 
 pub returns-in-None : goal.returns-in-None
 unfolding values_of
