@@ -1,6 +1,6 @@
 use Rattle.st_unit_rules.specs.DeclarationRules.{item_too_deep}
 use Rattle.name_rules.proofs.FaultLists.{faults_next, faults_ended}
-use Rattle.depth_rules.proofs.depths.section_depth_fault.Goals as goal
+use Rattle.depth_rules.proofs.depths.list_depth_fault.Goals as goal
 
 pub loop-item-preserved : goal.loop-item-preserved
 loop-item-preserved c =
