@@ -1,5 +1,5 @@
 -- The bases of a class before a cycle, by its chain.
-use Rattle.std.proofs.Common.{◌≡◌, ℕ, zero, suc, Bool, true, false, List, [], ◌∷◌, Option, Some, None, refl, sym, ap, ◌∙◌, length, subst, nat_eq, ◌⊎◌, inl, inr}
+use Rattle.std.proofs.Common.{◌≡◌, ◌<◌, ◌≤◌, ℕ, zero, suc, Bool, true, false, List, [], ◌∷◌, Option, Some, None, refl, sym, ap, ◌∙◌, length, get_or, subst, arith, nat_eq, ◌⊎◌, inl, inr}
 use Rattle.std.specs.Prelude.{◌||◌, ◌&&◌, not, slice_get}
 use Rattle.std.specs.List.{list_any}
 use Rattle.std.specs.Option.{option_to_list}
@@ -25,6 +25,16 @@ among_one (Some b) k h = elim (either (nat_eq k b) (is_among k []) h) [ inl p �
 
 one_among : (o : Option ℕ) (k : ℕ) → o ≡ Some k → is_among k (option_to_list o) ≡ true
 one_among o k e = ap (λ p. is_among k (option_to_list p)) e ∙ or-first (nat_eq k k) false (eq-eqb k k refl)
+
+pub there : (xs : List ℕ) (i k : ℕ) → i < length xs → ((d : ℕ) → k ≡ get_or xs i d) → slice_get xs i ≡ Some k
+there [] i k l e = absurd (omega arith)
+there (x ∷ xs) zero k l e = ap Some (sym (e 0))
+there (x ∷ xs) (suc i) k l e = there xs i k (omega arith) e
+
+pub past_end : (xs : List ℕ) (i : ℕ) → length xs ≤ i → slice_get xs i ≡ None
+past_end [] i l = refl
+past_end (x ∷ xs) zero l = absurd (omega arith)
+past_end (x ∷ xs) (suc i) l = past_end xs i (omega arith)
 
 or_none : (b : Bool) → (b || false) ≡ b
 or_none true = refl

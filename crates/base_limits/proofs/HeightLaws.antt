@@ -34,6 +34,10 @@ module _ (all : List (InterfaceDecl ℕ)) (from : ℕ) where
   pub bases_ended : (start : List Edge) (bases left : List (Used ℕ)) (edges : List Edge) → left ≡ [] → Bases start bases left edges → edges ≡ start ++ edges_to from (interfaces_named all bases)
   bases_ended start bases left edges s t = sym (append-nil edges) ∙ ap (λ xs. edges ++ edges_to from (interfaces_named all xs)) (sym s) ∙ t.rest
 
+pub none_left : {X : Type 0} (xs : List X) → length xs ≡ 0 → xs ≡ []
+none_left [] e = refl
+none_left (x ∷ xs) e = absurd (omega arith)
+
 -- what an interface extends, among all
 abbrev pub bases_named : List (InterfaceDecl ℕ) → InterfaceDecl ℕ → List ℕ
 bases_named all interface = interfaces_named all interface.bases

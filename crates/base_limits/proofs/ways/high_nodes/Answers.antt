@@ -10,8 +10,8 @@ loop-step-preserved c =
     ways_next c.args.count c.args.edges.now c.requires c.loop-step._step c.loop-step.marks.items c.in_ok-cycles.cycles.items c.in_ok-marks-2.marks.items c.in_ok-cycles.ensures.cycles
     (c.in_ok-marks-2.ensures.long ∙ ap (λ marks. length marks) c.deref.ensures.value)
     (λ i. c.in_ok-marks-2.ensures.next i
-    ∙ ap (λ marks. list_any (leads_on (goes_on marks c.deref-2.result.now) i) c.args.edges.now) c.deref.ensures.value
-    ∙ ap (λ cycles. list_any (leads_on (goes_on c.loop-step.marks.items cycles) i) c.args.edges.now) c.deref-2.ensures.value)
+    ∙ ap (λ marks. list_any (leads_on (goes_on marks c.deref-in-loop-step.result.now) i) c.args.edges.now) c.deref.ensures.value
+    ∙ ap (λ cycles. list_any (leads_on (goes_on c.loop-step.marks.items cycles) i) c.args.edges.now) c.deref-in-loop-step.ensures.value)
     c.loop-step.invariant
 
 pub returns : goal.returns
