@@ -1,3 +1,3 @@
+pub mod BaseLaws
 pub mod HeightLaws
-pub mod TopLaws
 pub mod WayLaws

@@ -1,15 +1,16 @@
 //! Interfaces with too many interfaces above.
 
-ghost use Rattle.std.specs.Prelude.{◌≡◌, ◌++◌, map, IfOk, OnOk};
-ghost use Rattle.st_rules.specs.Interfaces.{interfaces_in, interfaces_named};
+ghost use Rattle.std.specs.Prelude.{◌≡◌, ◌++◌, ℕ, suc, length, IfOk, OnOk};
+ghost use Rattle.st_rules.specs.Interfaces.{interfaces_in, interfaces_named, extended};
 ghost use Rattle.st_rules.specs.Faults.{least};
 ghost use Rattle.st_unit_rules.specs.Limits as limits;
-ghost use Rattle.declared_graph.specs.Private.Edges.{edges_to, edges_from};
-ghost use Rattle.base_limits.specs.Private.Heights.{bases_named, edges_above};
+ghost use Rattle.st_unit_rules.specs.Limits.{most_steps, has_way};
+ghost use Rattle.graph_cycles.specs.Graph.{marked};
+ghost use Rattle.declared_graph.specs.Private.Edges.{edges_to};
 
-use crate::ways::{is_marked, long_ways};
+use crate::ways::{high_nodes, is_marked};
 use class_tables::ClassTables;
-use graph_cycles::{Edge, nodes_to_cycles};
+use graph_cycles::Edge;
 use plc_text::{Code, NoMemory};
 use st_rules::when;
 use st_tree::{Decl, SeenUnit, Unit, Used};
@@ -38,13 +39,14 @@ fn add_bases(
     Ok(())
 }
 
-/// The edges from each interface to those that it extends.
-fn extends_edges(
+/// The interfaces with too many above, by their number.
+fn high_interfaces(
     alloc: Global,
     classes: &ClassTables,
     decls: &[Decl<u32>],
-) -> Result<Vec<Edge>, NoMemory>
-    ensures { IfOk result (λ edges. edges.items ≡ edges_above (interfaces_in classes.now.decls) (interfaces_in decls.now)) }
+) -> Result<Vec<bool>, NoMemory>
+    requires { classes.now.decls ≡ decls.now }
+    ensures { IfOk result (λ marks. (i : ℕ) → marked marks.items i ≡ has_way (extended (interfaces_in decls.now)) (length (interfaces_in decls.now)) (suc most_steps) i) }
 {
     let mut edges = Vec::new(alloc);
     let mut number = 0usize;
@@ -56,15 +58,15 @@ fn extends_edges(
         }
         left = behind;
     }
-    Ok(edges)
+    let marks = high_nodes(alloc, number, &edges)?;
+    Ok(marks)
 }
 
-/// How high interfaces stand, which contracts see as the unit.
+/// Which interfaces have too many above, which contracts see as the unit.
 #[derive(Drop)]
 pub struct InterfaceHeights {
     of: SeenUnit,
-    ways: Vec<bool>,
-    cycles: Vec<bool>,
+    high: Vec<bool>,
 }
 
 impl Model for InterfaceHeights {
@@ -77,15 +79,15 @@ impl Model for InterfaceHeights {
     ghost coded = { unit_type.the_row.coded };
 
     ghost use Rattle.st_rules.specs.Interfaces.{interfaces_in};
-    ghost use Rattle.base_limits.specs.Private.Heights.{AreHeights};
+    ghost use Rattle.base_limits.specs.Private.Heights.{AreHigh};
 
     ghost view = { λ t. t.of.value };
 
-    ghost invariant = { λ t. AreHeights (interfaces_in t.of.value.decls) t.ways.items t.cycles.items };
+    ghost invariant = { λ t. AreHigh (interfaces_in t.of.value.decls) t.high.items };
 }
 
 impl InterfaceHeights {
-    /// The heights of the interfaces of a unit, from its tables.
+    /// The heights of the interfaces of a unit, from its tables. It takes time linear in what stands behind EXTENDS.
     pub fn build(
         alloc: Global,
         unit: &Unit,
@@ -94,24 +96,17 @@ impl InterfaceHeights {
         requires { classes.now ≡ unit.now }
         ensures { IfOk result (λ heights. heights ≡ unit.now) }
     {
-        let count = classes.interface_count() as usize;
-        let edges = extends_edges(alloc, classes, unit.decls.as_slice())?;
-        let ways = long_ways(alloc, count, &edges)?;
-        let cycles = nodes_to_cycles(alloc, count, &edges)?;
+        let high = high_interfaces(alloc, classes, unit.decls.as_slice())?;
         Ok(InterfaceHeights {
             of: SeenUnit::of(unit),
-            ways,
-            cycles,
+            high,
         })
     }
 
-    /// E16 at the line, where more than 64 interfaces stand above the interface, one above the other. What lies on a cycle or leads to
-    /// one has no height.
+    /// E16 at the line, where more than 64 interfaces stand above the interface, one above the other, before a cycle.
     pub fn too_many_above(&self, line: u32, interface: u32) -> Option<(Code, u32)>
         ensures { result ≡ least (limits.too_many_interfaces_above line (interfaces_in self.now.decls) interface) }
     {
-        let high = is_marked(&self.ways, interface as usize);
-        let endless = is_marked(&self.cycles, interface as usize);
-        when(high && !endless, Code::E16, line)
+        when(is_marked(&self.high, interface as usize), Code::E16, line)
     }
 }

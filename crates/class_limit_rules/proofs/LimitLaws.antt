@@ -1,7 +1,6 @@
 -- Depths, and all limits of a class.
-use Rattle.std.proofs.Common.{◌≡◌, ℕ, Bool, List, ◌++◌, Option, Some, refl, sym, ap, ◌∙◌, subst, append_assoc, map}
-use Rattle.std.specs.Prelude.{◌&&◌, ◌||◌, not, filter, flat_map}
-use Rattle.std.specs.List.{list_any}
+use Rattle.std.proofs.Common.{◌≡◌, ℕ, List, ◌++◌, Option, Some, refl, sym, ap, ◌∙◌, subst, append_assoc, map}
+use Rattle.std.specs.Prelude.{◌&&◌, not, filter, flat_map}
 use Rattle.plc_text.specs.declared.code.Code.{Code}
 use Rattle.plc_text.specs.declared.code.Code.TheVariants.{E16}
 use Rattle.st_types.specs.declared.st_type.StType.TheVariants as type
@@ -16,13 +15,12 @@ use Rattle.st_rules.specs.Scope.{Scope}
 use Rattle.st_rules.proofs.FaultLaws.{least-append, earlier-assoc}
 use Rattle.declared_names.specs.Declarations.{declarations}
 use Rattle.declared_names.specs.UnitNames.{class_scope, unit_names}
-use Rattle.declared_names.specs.Variables.{is_kept_written, is_body_written, sections_in, sections_written}
-use Rattle.declared_names.specs.WrittenTypes.{has_too_many_dimensions}
+use Rattle.declared_names.specs.Variables.{is_body_written, sections_in, sections_written}
 use Rattle.declaration_list.specs.declared.written.WrittenName.{WrittenName}
 use Rattle.declaration_list.specs.Written.{global_of, names_in_sections}
 use Rattle.st_unit_rules.specs.Cycles.{leads_to_cycle}
 use Rattle.st_unit_rules.specs.DeclarationRules.{class_too_deep, item_too_deep, class_limits}
-use Rattle.st_unit_rules.specs.Limits.{has_depth}
+use Rattle.st_unit_rules.specs.Limits.{is_too_deep}
 use Rattle.type_sizes.specs.declared.sizes.TypeSizes.{TypeSizes}
 use Rattle.type_sizes.specs.Sizes.{Measures}
 use Rattle.depth_rules.proofs.Parts.{joined}
@@ -33,15 +31,14 @@ module _ (decls : List (Decl ℕ)) (s : Scope) (place class : ℕ) (d : ClassDec
   abbrev sections : List (Section ℕ)
   sections = sections_in d.members
 
-  pub depths_found : (sizes : TypeSizes) (ms : List (Member ℕ)) (list names : List WrittenName) (dimensions : Bool) (own inner r : Option (Code × ℕ)) → Measures sizes s → ms ≡ d.members → names ≡ list → map global_of list ≡ names_in_sections (sections_in ms)
-      → ((ss : List (Section ℕ)) → map global_of names ≡ names_in_sections ss → dimensions ≡ list_any (λ w. has_too_many_dimensions s w.item.kind) (filter is_kept_written (sections_written ss)))
-      → ((z : Scope) → Measures sizes z → own ≡ least (when ((has_depth z 65 (type.Instance class) || dimensions) && not (leads_to_cycle (declarations decls) place)) E16 d.line))
+  pub depths_found : (sizes : TypeSizes) (ms : List (Member ℕ)) (list names : List WrittenName) (own inner r : Option (Code × ℕ)) → Measures sizes s → ms ≡ d.members → names ≡ list → map global_of list ≡ names_in_sections (sections_in ms)
+      → ((z : Scope) → Measures sizes z → own ≡ least (when (is_too_deep z (type.Instance class) && not (leads_to_cycle (declarations decls) place)) E16 d.line))
       → ((ss : List (Section ℕ)) → map global_of names ≡ names_in_sections ss → inner ≡ least (flat_map (λ w. item_too_deep decls s w.item) (filter is_body_written (sections_written ss)))) → r ≡ earlier own inner
       → r ≡ least (depths decls s place class d)
-  depths_found sizes ms list names dimensions own inner r m a q u b o f e =
+  depths_found sizes ms list names own inner r m a q u o f e =
       let g : map global_of names ≡ names_in_sections sections = ap (map global_of) q ∙ u ∙ ap (λ zs. names_in_sections (sections_in zs)) a in
       joined r own inner (class_too_deep decls s place class d) (flat_map (λ w. item_too_deep decls s w.item) (filter is_body_written (sections_written sections))) e
-      (o s m ∙ ap (λ x. least (when ((has_depth s 65 (type.Instance class) || x) && not (leads_to_cycle (declarations decls) place)) E16 d.line)) (b sections g))
+      (o s m)
       (f sections g)
 
   pub all_limits : (one other : List (Decl ℕ)) (counts own r : Option (Code × ℕ)) → one ≡ decls → other ≡ decls → counts ≡ least (counted one s class d) → own ≡ least (depths other s place class d) → r ≡ earlier counts own → r ≡ least (class_limits decls s place class d)

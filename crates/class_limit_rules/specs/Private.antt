@@ -1,4 +1,3 @@
 -- The words of private contracts.
 pub mod Counts
-pub mod Dimensions
 pub mod Limits

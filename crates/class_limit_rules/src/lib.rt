@@ -2,7 +2,6 @@
 #![tactic(auto)]
 
 mod counts;
-mod dimensions;
 mod limits;
 
 pub use limits::class_limit_fault;

@@ -9,7 +9,6 @@ ghost use Rattle.type_sizes.specs.Sizes.{Measures};
 ghost use Rattle.class_limit_rules.specs.Private.Limits.{depths};
 
 use crate::counts::counts_fault;
-use crate::dimensions::kept_have_too_many;
 use declaration_list::written_members;
 use declared_graph::DeclaredGraph;
 use depth_rules::body_depth_fault;
@@ -38,8 +37,7 @@ fn depths_fault(
     let members = decl.members.as_slice();
     let list = written_members(alloc, members)?;
     let names = list.as_slice();
-    let dimensions = kept_have_too_many(alloc, s, names)?;
-    let own = class_too_deep(sizes, graph, decl.line, place, class, dimensions);
+    let own = class_too_deep(sizes, graph, decl.line, place, class);
     let of_body = body_depth_fault(alloc, s, sizes, graph, names)?;
     Ok(earlier(own, of_body))
 }

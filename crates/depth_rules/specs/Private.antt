@@ -1,2 +1,3 @@
 -- The words of private contracts.
+pub mod Depths
 pub mod Variables

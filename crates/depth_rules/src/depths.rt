@@ -1,12 +1,13 @@
 //! How deep written types are, and those of the variables and of the result of a routine.
 
-ghost use Rattle.std.specs.Prelude.{◌≡◌, flat_map, IfOk};
+ghost use Rattle.std.specs.Prelude.{◌≡◌, not, filter, flat_map, IfOk};
 ghost use Rattle.st_rules.specs.Faults.{least};
+ghost use Rattle.st_rules.specs.Scope as scope;
 ghost use Rattle.declared_names.specs.Declarations.{declarations};
 ghost use Rattle.st_unit_rules.specs.DeclarationRules as rules;
-ghost use Rattle.st_unit_rules.specs.Limits as limits;
 ghost use Rattle.limit_rules.specs.Sizes.{Measures};
-ghost use Rattle.limit_rules.specs.Depths.{allowed};
+ghost use Rattle.limit_rules.specs.Depths.{depth_faults};
+ghost use Rattle.depth_rules.specs.Private.Depths.{section_too_deep};
 
 use declaration_list::item_line;
 use limit_rules::declared_graph::DeclaredGraph;
@@ -15,7 +16,7 @@ use limit_rules::{Within, too_deep};
 use plc_text::{Code, NoMemory};
 use st_rules::earlier;
 use st_scope::Scope;
-use st_tree::{Item, Section, TypeSpec};
+use st_tree::{Item, Section, SectionSort, TypeSpec};
 use std::alloc::Global;
 use type_rules::check_type;
 
@@ -31,18 +32,10 @@ pub fn type_depth_fault(
     spec: &TypeSpec<u32>,
 ) -> Result<Option<(Code, u32)>, NoMemory>
     requires { Measures sizes.now s.now }
-    ensures { IfOk result (λ f. f ≡ least (limits.too_deep s.now (declarations graph.now.decls) (allowed within) line spec.now)) }
+    ensures { IfOk result (λ f. f ≡ least (depth_faults within s.now (declarations graph.now.decls) line spec.now)) }
 {
     let found = check_type(alloc, s, spec)?;
-    Ok(too_deep(
-        sizes,
-        graph,
-        within,
-        line,
-        spec,
-        &found.kind,
-        found.too_many,
-    ))
+    Ok(too_deep(sizes, graph, within, line, spec, &found.kind))
 }
 
 fn item_depth_fault(
@@ -56,12 +49,12 @@ fn item_depth_fault(
     ensures { IfOk result (λ f. f ≡ least (rules.item_too_deep graph.now.decls s.now item.now)) }
 {
     let line = item_line(item);
-    let found = type_depth_fault(alloc, s, sizes, graph, Within::Unit, line, &item.kind)?;
+    let found = type_depth_fault(alloc, s, sizes, graph, Within::Variable, line, &item.kind)?;
     Ok(found)
 }
 
-/// E16 at the least line of an item of a section whose type is too deep.
-fn section_depth_fault(
+/// E16 at the least line of an item whose type is too deep.
+fn list_depth_fault(
     alloc: Global,
     s: &Scope<'_>,
     sizes: &TypeSizes,
@@ -79,7 +72,32 @@ fn section_depth_fault(
     Ok(found)
 }
 
-/// E16 at the least line of an item of sections whose type is too deep.
+fn is_external(sort: SectionSort) -> bool
+    ensures { result ≡ scope.is_external sort }
+{
+    matches!(sort, SectionSort::External)
+}
+
+/// E16 at the least line of an item of a section whose type is too deep. Externals are no locals.
+fn section_depth_fault(
+    alloc: Global,
+    s: &Scope<'_>,
+    sizes: &TypeSizes,
+    graph: &DeclaredGraph,
+    section: &Section<u32>,
+) -> Result<Option<(Code, u32)>, NoMemory>
+    requires { Measures sizes.now s.now }
+    ensures { IfOk result (λ f. f ≡ least (section_too_deep graph.now.decls s.now section.now)) }
+{
+    if is_external(section.sort) {
+        return Ok(None);
+    }
+    let items = section.items.as_slice();
+    let found = list_depth_fault(alloc, s, sizes, graph, items)?;
+    Ok(found)
+}
+
+/// E16 at the least line of an item of sections, without those of externals, whose type is too deep.
 pub fn items_depth_fault(
     alloc: Global,
     s: &Scope<'_>,
@@ -88,12 +106,11 @@ pub fn items_depth_fault(
     sections: &[Section<u32>],
 ) -> Result<Option<(Code, u32)>, NoMemory>
     requires { Measures sizes.now s.now }
-    ensures { IfOk result (λ f. f ≡ least (flat_map (rules.item_too_deep graph.now.decls s.now) (rules.items_in sections.now))) }
+    ensures { IfOk result (λ f. f ≡ least (flat_map (rules.item_too_deep graph.now.decls s.now) (rules.items_in (filter (λ x. not (scope.is_external x.sort)) sections.now)))) }
 {
     let mut found = None;
     for section in sections {
-        let items = section.items.as_slice();
-        let own = section_depth_fault(alloc, s, sizes, graph, items)?;
+        let own = section_depth_fault(alloc, s, sizes, graph, section)?;
         found = earlier(found, own);
     }
     Ok(found)
@@ -113,7 +130,7 @@ pub fn result_depth_fault(
 {
     match spec {
         Some(spec) => {
-            let found = type_depth_fault(alloc, s, sizes, graph, Within::Unit, line, spec)?;
+            let found = type_depth_fault(alloc, s, sizes, graph, Within::Variable, line, spec)?;
             Ok(found)
         }
         None => Ok(None),

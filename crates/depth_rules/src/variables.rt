@@ -1,6 +1,6 @@
 //! How deep the types of variables of programs, classes and function blocks are. What an item says is looked at with its first name.
 
-ghost use Rattle.std.specs.Prelude.{◌≡◌, ℕ, List, map, flat_map, filter, IfOk};
+ghost use Rattle.std.specs.Prelude.{◌≡◌, ℕ, ◌-◌, List, map, flat_map, filter, IfOk};
 ghost use Rattle.st_tree.specs.declared.declaration.Section.{Section as ASection};
 ghost use Rattle.st_rules.specs.Faults.{least};
 ghost use Rattle.st_rules.specs.Scope as scope;
@@ -67,7 +67,7 @@ pub fn kept_depth_fault(
 ) -> Result<Option<(Code, u32)>, NoMemory>
     requires { Measures sizes.now s.now }
     ensures { IfOk result (λ f. (ss : List (ASection ℕ)) → map global_of names.now ≡ names_in_sections ss
-        → f ≡ least (flat_map (λ w. limits.too_deep s.now (declarations graph.now.decls) 63 line w.item.kind) (filter is_kept_written (sections_written ss)))) }
+        → f ≡ least (flat_map (λ w. limits.too_deep s.now (declarations graph.now.decls) (limits.most_steps - 1) line w.item.kind) (filter is_kept_written (sections_written ss)))) }
 {
     let mut found = None;
     for name in names {
@@ -93,7 +93,7 @@ fn body_name_fault(
     }
     let line = item_line(name.item);
     let kind = &name.item.kind;
-    let found = type_depth_fault(alloc, s, sizes, graph, Within::Unit, line, kind)?;
+    let found = type_depth_fault(alloc, s, sizes, graph, Within::Variable, line, kind)?;
     Ok(found)
 }
 

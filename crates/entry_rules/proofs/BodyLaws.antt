@@ -1,7 +1,6 @@
 -- What a name of TYPE stands for, by its sort.
-use Rattle.std.proofs.Common.{◌≡◌, ℕ, Bool, false, List, [], ◌∷◌, ◌++◌, Option, Some, None, refl, sym, ap, ◌∙◌, subst, append_assoc}
-use Rattle.std.specs.Prelude.{◌&&◌, ◌||◌, not, flat_map, option_map}
-use Rattle.std.specs.List.{list_any}
+use Rattle.std.proofs.Common.{◌≡◌, ℕ, false, List, [], ◌∷◌, ◌++◌, Option, Some, None, refl, sym, ap, ◌∙◌, subst, append_assoc}
+use Rattle.std.specs.Prelude.{◌&&◌, not, flat_map, option_map}
 use Rattle.plc_text.specs.declared.code.Code.{Code}
 use Rattle.plc_text.specs.declared.code.Code.TheVariants.{E16}
 use Rattle.st_types.specs.declared.st_type.StType.TheVariants as type
@@ -18,11 +17,11 @@ use Rattle.st_tree.specs.Initial.{initial_of}
 use Rattle.st_rules.specs.Faults.{Faults, least, earlier, when}
 use Rattle.st_rules.specs.Scope.{Scope}
 use Rattle.declared_names.specs.Declarations.{declarations, item_line_of}
-use Rattle.declared_names.specs.WrittenTypes.{type_written, type_faults, has_too_many_dimensions}
+use Rattle.declared_names.specs.WrittenTypes.{type_written, type_faults}
 use Rattle.st_unit_rules.specs.Checked.{Each, TypedEntry, TypedTypeBody, TypedSpec, TypedGroup}
-use Rattle.st_unit_rules.specs.Cycles.{leads_to_cycle}
+use Rattle.st_unit_rules.specs.Cycles.{leads_to_cycle, own_values}
 use Rattle.st_unit_rules.specs.DeclarationRules.{unit, field_given, group_faults, type_body_faults, body_depth}
-use Rattle.st_unit_rules.specs.Limits.{has_depth, too_deep}
+use Rattle.st_unit_rules.specs.Limits.{most_steps, is_too_deep, too_deep}
 use Rattle.st_unit_rules.specs.NameRules.{space_faults, part_names}
 use Rattle.st_unit_rules.specs.VariableRules.{initial_if_given, instance_out_of_place}
 use Rattle.type_sizes.specs.declared.sizes.TypeSizes.{TypeSizes}
@@ -50,51 +49,43 @@ module _ (decls : List (Decl ℕ)) where
       group_start : FieldGroup ℕ → Faults
       group_start h = type_faults (unit decls) h.kind ++ instance_out_of_place (item_line_of h.names) false (type_written (unit decls) h.kind)
 
-  seen : (c : CheckedBody) (line place number : ℕ) (x y : TypeBody ℕ) → x ≡ y → BodyChecks c decls line place number y → BodyChecks c decls line place number x
-  seen c line place number x y h f = subst (λ (z : TypeBody ℕ). BodyChecks c decls line place number z) (sym h) f
+  seen : (c : CheckedBody) (own : Name) (place number : ℕ) (x y : TypeBody ℕ) → x ≡ y → BodyChecks c decls own place number y → BodyChecks c decls own place number x
+  seen c own place number x y h f = subst (λ (z : TypeBody ℕ). BodyChecks c decls own place number z) (sym h) f
 
-  module _ (c : CheckedBody) (line place number : ℕ) (x : TypeBody ℕ) (s : Scope) (u : s ≡ unit decls) where
-    pub alias_arm : (t : TypeSpec ℕ) (found : CheckedType) (sizes : TypeSizes) (depth : Option (Code × ℕ)) → x ≡ body.Alias t → Measures sizes s → ChecksType found s t
-        → ((v : Scope) → Measures sizes v → found.kind ≡ type_written v t → found.too_many ≡ has_too_many_dimensions v t → depth ≡ least (too_deep v (declarations decls) 64 line t)) → IsAlias c found depth
-        → BodyChecks c decls line place number x
-    alias_arm t found sizes depth h m f d w =
+  module _ (c : CheckedBody) (own : Name) (place number : ℕ) (x : TypeBody ℕ) (s : Scope) (u : s ≡ unit decls) where
+    pub alias_arm : (t : TypeSpec ℕ) (found : CheckedType) (sizes : TypeSizes) (values depth : Option (Code × ℕ)) → x ≡ body.Alias t → Measures sizes s → ChecksType found s t → values ≡ least (own_values own.text t)
+        → ((v : Scope) → Measures sizes v → found.kind ≡ type_written v t → depth ≡ least (too_deep v (declarations decls) most_steps own.line t)) → IsAlias c found values depth → BodyChecks c decls own place number x
+    alias_arm t found sizes values depth h m f v d w =
         let g : ChecksType found (unit decls) t = subst (λ (z : Scope). ChecksType found z t) u f in
-        seen c line place number x (body.Alias t) h (record {
-          least = joined c.least found.least depth (type_faults (unit decls) t) (too_deep (unit decls) (declarations decls) 64 line t) w.least g.least
-              (d s m f.kind f.too_many ∙ ap (λ z. least (too_deep z (declarations decls) 64 line t)) u);
+        seen c own place number x (body.Alias t) h (record {
+          least = joined c.least (earlier found.least values) depth (type_faults (unit decls) t ++ own_values own.text t) (too_deep (unit decls) (declarations decls) most_steps own.line t) w.least
+              (joined (earlier found.least values) found.least values (type_faults (unit decls) t) (own_values own.text t) refl g.least v) (d s m f.kind ∙ ap (λ z. least (too_deep z (declarations decls) most_steps own.line t)) u);
           body = subst (λ (y : TypeBody Note). TypedTypeBody decls (body.Alias t) y) (sym w.body) g.tree;
         })
 
-    pub enumeration_arm : (ns us : List Name) → x ≡ body.Enumeration ns → us ≡ ns → IsEnumeration c us → BodyChecks c decls line place number x
-    enumeration_arm ns us h q w = seen c line place number x (body.Enumeration us) (h ∙ ap (λ (ys : List Name). body.Enumeration ys) (sym q)) (record {
+    pub enumeration_arm : (ns us : List Name) → x ≡ body.Enumeration ns → us ≡ ns → IsEnumeration c us → BodyChecks c decls own place number x
+    enumeration_arm ns us h q w = seen c own place number x (body.Enumeration us) (h ∙ ap (λ (ys : List Name). body.Enumeration ys) (sym q)) (record {
       least = w.least;
       body = subst (λ (y : TypeBody Note). TypedTypeBody decls (body.Enumeration us) y) (sym w.body) refl;
     })
 
     pub structure_arm : (gs us : List (FieldGroup ℕ)) (found : CheckedGroups) (sizes : TypeSizes) (depth : Option (Code × ℕ)) → x ≡ body.Structure gs → us ≡ gs → Measures sizes s → GroupsFind found s us
-        → ((v : Scope) → Measures sizes v → depth ≡ least (when ((has_depth v 65 (type.Structure number) || found.too_many) && not (leads_to_cycle (declarations decls) place)) E16 line)) → IsStructure c found depth
-        → BodyChecks c decls line place number x
+        → ((v : Scope) → Measures sizes v → depth ≡ least (when (is_too_deep v (type.Structure number) && not (leads_to_cycle (declarations decls) place)) E16 own.line)) → IsStructure c found depth → BodyChecks c decls own place number x
     structure_arm gs us found sizes depth h q m f d w =
         let g : GroupsFind found (unit decls) us = subst (λ (z : Scope). GroupsFind found z us) u f in
-        seen c line place number x (body.Structure us) (h ∙ ap (λ (ys : List (FieldGroup ℕ)). body.Structure ys) (sym q)) (record {
-          least = joined c.least found.least depth (flat_map (group_faults decls) us)
-              (when ((has_depth (unit decls) 65 (type.Structure number) || list_any (λ g. has_too_many_dimensions (unit decls) g.kind) us) && not (leads_to_cycle (declarations decls) place)) E16 line)
-              w.least (g.least ∙ ap least (groups_are us))
-              (d s m
-              ∙ ap (λ z. least (when ((has_depth z 65 (type.Structure number) || found.too_many) && not (leads_to_cycle (declarations decls) place)) E16 line)) u
-              ∙ ap (λ b. least (when ((has_depth (unit decls) 65 (type.Structure number) || b) && not (leads_to_cycle (declarations decls) place)) E16 line)) g.too_many);
+        seen c own place number x (body.Structure us) (h ∙ ap (λ (ys : List (FieldGroup ℕ)). body.Structure ys) (sym q)) (record {
+          least = joined c.least found.least depth (flat_map (group_faults decls) us) (when (is_too_deep (unit decls) (type.Structure number) && not (leads_to_cycle (declarations decls) place)) E16 own.line) w.least
+              (g.least ∙ ap least (groups_are us)) (d s m ∙ ap (λ z. least (when (is_too_deep z (type.Structure number) && not (leads_to_cycle (declarations decls) place)) E16 own.line)) u);
           body = subst (λ (y : TypeBody Note). TypedTypeBody decls (body.Structure us) y) (sym w.body) g.trees;
         })
 
-  pub entry_checks : (c : CheckedEntry) (place number line : ℕ) (t : TypeDecl ℕ) (own : Name) (names : Option (Code × ℕ)) (list parts : List Name) (found : CheckedBody) → list ≡ part_names t.body → parts ≡ list → names ≡ least (space_faults parts) → line ≡ t.name.line → own ≡ t.name
-      → BodyChecks found decls line place number t.body → IsEntry c own names found → ChecksEntry c decls place number t
-  entry_checks c place number line t own names list parts found p q n l o f w =
-      let g : BodyChecks found decls t.name.line place number t.body = subst (λ (m : ℕ). BodyChecks found decls m place number t.body) l f in
-      record {
-        least = joined c.least names found.least (space_faults (part_names t.body)) (type_body_faults decls t.body ++ body_depth decls t.name.line place number t.body) w.least (n ∙ ap (λ ns. least (space_faults ns)) (q ∙ p)) g.least
-            ∙ ap least (sym (append_assoc (space_faults (part_names t.body)) (type_body_faults decls t.body) (body_depth decls t.name.line place number t.body)));
-        tree = record {
-          name = w.name ∙ o;
-          body = subst (λ (y : TypeBody Note). TypedTypeBody decls t.body y) (sym w.body) g.body;
-        };
-      }
+  pub entry_checks : (c : CheckedEntry) (place number : ℕ) (t : TypeDecl ℕ) (own : Name) (names : Option (Code × ℕ)) (list parts : List Name) (found : CheckedBody) → list ≡ part_names t.body → parts ≡ list → names ≡ least (space_faults parts) → own ≡ t.name
+      → BodyChecks found decls t.name place number t.body → IsEntry c own names found → ChecksEntry c decls place number t
+  entry_checks c place number t own names list parts found p q n o g w = record {
+    least = joined c.least names found.least (space_faults (part_names t.body)) (type_body_faults decls t.name.text t.body ++ body_depth decls t.name.line place number t.body) w.least (n ∙ ap (λ ns. least (space_faults ns)) (q ∙ p)) g.least
+        ∙ ap least (sym (append_assoc (space_faults (part_names t.body)) (type_body_faults decls t.name.text t.body) (body_depth decls t.name.line place number t.body)));
+    tree = record {
+      name = w.name ∙ o;
+      body = subst (λ (y : TypeBody Note). TypedTypeBody decls t.body y) (sym w.body) g.body;
+    };
+  }

@@ -1,7 +1,6 @@
 -- Fields of a structure, one group more.
-use Rattle.std.proofs.Common.{◌≡◌, ℕ, ◌+◌, ◌<◌, ◌≤◌, Bool, true, false, List, [], ◌∷◌, ◌++◌, Option, None, refl, sym, ap, ◌∙◌, subst, length, get_or, drop}
-use Rattle.std.specs.Prelude.{◌||◌, flat_map, option_map}
-use Rattle.std.specs.List.{list_any}
+use Rattle.std.proofs.Common.{◌≡◌, ℕ, ◌+◌, ◌<◌, ◌≤◌, false, List, [], ◌∷◌, ◌++◌, Option, None, refl, sym, ap, ◌∙◌, subst, length, get_or}
+use Rattle.std.specs.Prelude.{flat_map, option_map}
 use Rattle.plc_text.specs.declared.code.Code.{Code}
 use Rattle.st_tree.specs.declared.declaration.FieldGroup.{FieldGroup}
 use Rattle.st_tree.specs.declared.initial.Init.{Init}
@@ -11,9 +10,8 @@ use Rattle.st_tree.specs.declared.type_spec.TypeSpec.{TypeSpec}
 use Rattle.st_tree.specs.Initial.{initial_of}
 use Rattle.st_rules.specs.Faults.{least, earlier}
 use Rattle.st_rules.specs.Scope.{Scope}
-use Rattle.st_rules.proofs.ListLaws.{drop-at, drop-end}
 use Rattle.declared_names.specs.Declarations.{item_line_of}
-use Rattle.declared_names.specs.WrittenTypes.{type_written, type_faults, has_too_many_dimensions}
+use Rattle.declared_names.specs.WrittenTypes.{type_written, type_faults}
 use Rattle.st_unit_rules.specs.Checked.{Each, IfThere, TypedGroup, TypedInitial, TypedSpec}
 use Rattle.st_unit_rules.specs.VariableRules.{instance_out_of_place, initial_if_given}
 use Rattle.variable_rules.proofs.Parts.{joined}
@@ -37,7 +35,6 @@ group_checks c s g line own found given l n t v w = record {
       (instance_out_of_place (item_line_of g.names) false (type_written s g.kind)) refl t.least
       (ap (λ m. least (instance_out_of_place m false found.kind)) l ∙ ap (λ u. least (instance_out_of_place (item_line_of g.names) false u)) t.kind))
       (v.least ∙ ap (λ u. least (initial_if_given s u (option_map initial_of g.initial))) t.kind);
-  too_many = w.too_many ∙ t.too_many;
   tree = record {
     names = w.names ∙ n;
     kind = subst (λ (u : TypeSpec Note). TypedSpec s g.kind u) (sym w.kind) t.tree;
@@ -45,39 +42,23 @@ group_checks c s g line own found given l n t v w = record {
   };
 }
 
-or_false : (b : Bool) → (b || false) ≡ b
-or_false true = refl
-or_false false = refl
-
-or_again : (a b c : Bool) → ((a || b) || c) ≡ (a || (b || c))
-or_again true b c = refl
-or_again false b c = refl
-
 -- so many were looked at
 pub record GroupsTo (x : CheckedGroups) (s : Scope) (gs : List (FieldGroup ℕ)) (i : ℕ) : Type 0 where
   pub each : EachTo (TypedGroup s) (group_in s) x.least x.groups gs i
-  pub any : (x.too_many || list_any (λ g. has_too_many_dimensions s g.kind) (drop i gs)) ≡ list_any (λ g. has_too_many_dimensions s g.kind) gs
 
 module _ (s : Scope) (gs : List (FieldGroup ℕ)) where
   pub groups_begun : (x : CheckedGroups) → NoGroups x → GroupsTo x s gs 0
   groups_begun x n = record {
     each = each_begun (TypedGroup s) (group_in s) gs x.least x.groups n.least n.groups;
-    any = ap (λ b. b || list_any (λ g. has_too_many_dimensions s g.kind) gs) n.too_many;
   }
 
   pub groups_next : (x before : CheckedGroups) (one : CheckedGroup) (i : ℕ) (g : FieldGroup ℕ) → i < length gs → g ≡ get_or gs i g → GroupChecks one s g → AddsGroup x before one → GroupsTo before s gs i → GroupsTo x s gs (i + 1)
   groups_next x before one i g l e f a k = record {
     each = each_next (TypedGroup s) (group_in s) gs x.least before.least one.least x.groups before.groups g one.group i l e a.least f.least f.tree a.groups k.each;
-    any =
-        ap (λ b. b || list_any (λ g. has_too_many_dimensions s g.kind) (drop (i + 1) gs)) (a.too_many ∙ ap (λ b. before.too_many || b) f.too_many)
-        ∙ or_again before.too_many (has_too_many_dimensions s g.kind) (list_any (λ g. has_too_many_dimensions s g.kind) (drop (i + 1) gs))
-        ∙ sym (ap (λ hs. before.too_many || list_any (λ g. has_too_many_dimensions s g.kind) hs) (drop-at gs i g l e))
-        ∙ k.any;
   }
 
   pub groups_ended : (x : CheckedGroups) (i : ℕ) → length gs ≤ i → GroupsTo x s gs i → GroupsFind x s gs
   groups_ended x i l k = record {
     least = each_least (TypedGroup s) (group_in s) gs x.least x.groups i l k.each;
-    too_many = sym (or_false x.too_many) ∙ sym (ap (λ hs. x.too_many || list_any (λ g. has_too_many_dimensions s g.kind) hs) (drop-end gs i l)) ∙ k.any;
     trees = each_trees (TypedGroup s) (group_in s) gs x.least x.groups i l k.each;
   }

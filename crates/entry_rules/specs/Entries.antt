@@ -10,7 +10,7 @@ use Rattle.entry_rules.specs.declared.entries.CheckedEntry.{CheckedEntry}
 
 -- what an entry with a number breaks at a place, but for what counts for every declaration
 abbrev pub entry_faults : List (Decl ℕ) → ℕ → ℕ → TypeDecl ℕ → Faults
-entry_faults decls place number t = space_faults (part_names t.body) ++ type_body_faults decls t.body ++ body_depth decls t.name.line place number t.body
+entry_faults decls place number t = space_faults (part_names t.body) ++ type_body_faults decls t.name.text t.body ++ body_depth decls t.name.line place number t.body
 
 pub record ChecksEntry (c : CheckedEntry) (decls : List (Decl ℕ)) (place number : ℕ) (t : TypeDecl ℕ) : Type 0 where
   pub least : c.least ≡ least (entry_faults decls place number t)

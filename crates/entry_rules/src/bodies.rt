@@ -6,7 +6,7 @@ ghost use Rattle.type_sizes.specs.Sizes.{Measures};
 ghost use Rattle.entry_rules.specs.Private.Bodies.{IsAlias, IsEnumeration, IsStructure, BodyChecks};
 
 use crate::groups::{CheckedGroups, check_groups};
-use declared_graph::DeclaredGraph;
+use declared_graph::{DeclaredGraph, own_values_fault};
 use limit_rules::{Within, structure_too_deep, too_deep};
 use plc_text::{Code, NoMemory};
 use st_rules::earlier;
@@ -24,17 +24,17 @@ pub struct CheckedBody {
     pub body: TypeBody<Note>,
 }
 
-fn alias_of(found: CheckedType, deep: Option<(Code, u32)>) -> CheckedBody
-    ensures { IsAlias result found deep }
+/// An alias that breaks these rules beside those of its type.
+fn alias_of(found: CheckedType, own: Option<(Code, u32)>, deep: Option<(Code, u32)>) -> CheckedBody
+    ensures { IsAlias result found own deep }
 {
     let CheckedType {
         kind: _,
         least,
-        too_many: _,
         tree,
     } = found;
     CheckedBody {
-        least: earlier(least, deep),
+        least: earlier(earlier(least, own), deep),
         body: TypeBody::Alias(tree),
     }
 }
@@ -52,38 +52,34 @@ fn enumeration_of(alloc: Global, names: &[Name]) -> Result<CheckedBody, NoMemory
 fn structure_of(found: CheckedGroups, depth: Option<(Code, u32)>) -> CheckedBody
     ensures { IsStructure result found depth }
 {
-    let CheckedGroups {
-        least,
-        too_many: _,
-        groups,
-    } = found;
+    let CheckedGroups { least, groups } = found;
     CheckedBody {
         least: earlier(least, depth),
         body: TypeBody::Structure(groups),
     }
 }
 
-/// Checks what the entry of TYPE with this number stands for, which is the declaration at this place and stands at this line.
+/// Checks what the entry of TYPE with this name and number stands for, which is the declaration at this place.
 pub fn check_body(
     alloc: Global,
     s: &Scope<'_>,
     sizes: &TypeSizes,
     graph: &DeclaredGraph,
-    line: u32,
+    name: &Name,
     place: usize,
     number: u32,
     body: &TypeBody<u32>,
 ) -> Result<CheckedBody, NoMemory>
     requires unit { s.now ≡ rules.unit graph.now.decls }
     requires sizes { Measures sizes.now s.now }
-    ensures { IfOk result (λ c. BodyChecks c graph.now.decls line place number body.now) }
+    ensures { IfOk result (λ c. BodyChecks c graph.now.decls name.now place number body.now) }
 {
     match body {
         TypeBody::Alias(spec) => {
             let found = check_type(alloc, s, spec)?;
-            let many = found.too_many;
-            let depth = too_deep(sizes, graph, Within::Unit, line, spec, &found.kind, many);
-            Ok(alias_of(found, depth))
+            let own = own_values_fault(alloc, &name.text, spec)?;
+            let depth = too_deep(sizes, graph, Within::Entry, name.line, spec, &found.kind);
+            Ok(alias_of(found, own, depth))
         }
         TypeBody::Enumeration(names) => {
             let c = enumeration_of(alloc, names.as_slice())?;
@@ -91,8 +87,7 @@ pub fn check_body(
         }
         TypeBody::Structure(groups) => {
             let found = check_groups(alloc, s, groups.as_slice())?;
-            let many = found.too_many;
-            let depth = structure_too_deep(sizes, graph, line, place, number, many);
+            let depth = structure_too_deep(sizes, graph, name.line, place, number);
             Ok(structure_of(found, depth))
         }
     }

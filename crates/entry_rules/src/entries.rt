@@ -54,8 +54,8 @@ pub fn check_entry(
     let list = part_names(alloc, &entry.body)?;
     let parts = list.as_slice();
     let names = space_fault(alloc, parts)?;
-    let line = entry.name.line;
-    let name = entry.name.copy(alloc)?;
-    let found = check_body(alloc, s, sizes, graph, line, place, number, &entry.body)?;
+    let own = &entry.name;
+    let name = own.copy(alloc)?;
+    let found = check_body(alloc, s, sizes, graph, own, place, number, &entry.body)?;
     Ok(entry_of(name, names, found))
 }

@@ -17,8 +17,6 @@ use variable_rules::{CheckedGiven, check_given, copied_names};
 #[derive(Drop)]
 pub struct CheckedGroup {
     pub least: Option<(Code, u32)>,
-    /// Whether more arrays lie in one another than may.
-    pub too_many: bool,
     pub group: FieldGroup<Note>,
 }
 
@@ -26,8 +24,6 @@ pub struct CheckedGroup {
 #[derive(Drop)]
 pub struct CheckedGroups {
     pub least: Option<(Code, u32)>,
-    /// Whether more arrays lie in one another than may, in one of them.
-    pub too_many: bool,
     pub groups: Items<FieldGroup<Note>>,
 }
 
@@ -48,7 +44,6 @@ fn group_of(line: u32, names: Items<Name>, kind: CheckedType, given: CheckedGive
     let CheckedType {
         kind: told,
         least: of_kind,
-        too_many,
         tree,
     } = kind;
     let CheckedGiven {
@@ -58,7 +53,6 @@ fn group_of(line: u32, names: Items<Name>, kind: CheckedType, given: CheckedGive
     let place = instance_out_of_place(line, false, &told);
     CheckedGroup {
         least: earlier(earlier(of_kind, place), of_initial),
-        too_many,
         group: FieldGroup {
             names,
             kind: tree,
@@ -86,7 +80,6 @@ fn no_groups(alloc: Global) -> CheckedGroups
 {
     CheckedGroups {
         least: None,
-        too_many: false,
         groups: Items::new(alloc),
     }
 }
@@ -94,20 +87,11 @@ fn no_groups(alloc: Global) -> CheckedGroups
 fn with_group(so_far: CheckedGroups, one: CheckedGroup) -> Result<CheckedGroups, NoMemory>
     ensures { IfOk result (λ x. AddsGroup x so_far one) }
 {
-    let CheckedGroups {
-        least,
-        too_many,
-        mut groups,
-    } = so_far;
-    let CheckedGroup {
-        least: own,
-        too_many: more,
-        group,
-    } = one;
+    let CheckedGroups { least, mut groups } = so_far;
+    let CheckedGroup { least: own, group } = one;
     groups.push(group)?;
     Ok(CheckedGroups {
         least: earlier(least, own),
-        too_many: too_many || more,
         groups,
     })
 }

@@ -1,6 +1,6 @@
 -- A program from its parts, and in the scope with its variables.
-use Rattle.std.proofs.Common.{◌≡◌, ℕ, ◌+◌, false, List, [], ◌++◌, Option, Some, None, refl, sym, ap, ◌∙◌, subst, arith, map, length}
-use Rattle.std.specs.Prelude.{filter, flat_map}
+use Rattle.std.proofs.Common.{◌≡◌, ℕ, false, List, [], ◌++◌, Option, None, refl, sym, ap, ◌∙◌, subst, map}
+use Rattle.std.specs.Prelude.{◌-◌, filter, flat_map}
 use Rattle.plc_text.specs.declared.code.Code.{Code}
 use Rattle.st_tree.specs.declared.declaration.ProgramDecl.{ProgramDecl}
 use Rattle.st_tree.specs.declared.declaration.Section.{Section}
@@ -11,23 +11,20 @@ use Rattle.st_tree.specs.declared.unit.Decl.{Decl}
 use Rattle.st_tree.specs.Statement.{statements_of}
 use Rattle.st_rules.specs.declared.names.DeclaredVariable.{DeclaredVariable}
 use Rattle.st_rules.specs.Faults.{Faults, least, earlier}
-use Rattle.st_rules.specs.Scope.{Scope, is_of_body}
+use Rattle.st_rules.specs.Scope.{Scope}
 use Rattle.st_rules.specs.Statements.{body_faults}
 use Rattle.st_rules.proofs.FaultLaws.{least-append, earlier-assoc}
 use Rattle.declared_names.specs.Declarations.{declarations}
 use Rattle.declared_names.specs.UnitNames.{unit_names, unit_scope, program_locals, program_scope}
-use Rattle.declared_names.specs.Variables.{is_parameter_written, is_kept_written, is_body_written, sections_written}
+use Rattle.declared_names.specs.Variables.{is_kept_written, is_body_written, sections_written}
 use Rattle.declaration_list.specs.declared.written.WrittenName.{WrittenName}
-use Rattle.declaration_list.specs.Written.{global_of, written_of, names_in_sections}
+use Rattle.declaration_list.specs.Written.{global_of, names_in_sections}
 use Rattle.st_unit_rules.specs.Checked.{Each, TypedBody, TypedSection, TypedProgram}
 use Rattle.st_unit_rules.specs.Cycles.{inner_cycles}
 use Rattle.st_unit_rules.specs.DeclarationRules.{item_too_deep, program_limits, program_faults}
-use Rattle.st_unit_rules.specs.Limits.{too_deep, too_many_parameters, too_many_locals, all_values}
+use Rattle.st_unit_rules.specs.Limits.{most_steps, too_deep}
 use Rattle.st_unit_rules.specs.NameRules.{space_faults, section_names}
 use Rattle.st_unit_rules.specs.VariableRules.{of_program, sections_faults}
-use Rattle.type_sizes.specs.declared.sizes.TypeSizes.{TypeSizes}
-use Rattle.type_sizes.specs.Size.{capped}
-use Rattle.type_sizes.specs.Sizes.{Measures}
 use Rattle.routine_rules.proofs.Parts.{joined}
 use Rattle.routine_rules.specs.CheckedSections.{CheckedSections}
 use Rattle.routine_rules.specs.Sections.{ChecksSections}
@@ -42,39 +39,19 @@ use Rattle.function_rules.proofs.FunctionLaws.{none_behind}
 -- ---- limits
 
 module _ (decls : List (Decl ℕ)) (s : Scope) (p : ProgramDecl ℕ) where
-  abbrev parameters : Faults
-  parameters = too_many_parameters p.line (length (filter is_parameter_written (sections_written p.sections)))
+  abbrev kept_in : List (Section ℕ) → Faults
+  kept_in ss = flat_map (λ w. too_deep s (declarations decls) (most_steps - 1) p.line w.item.kind) (filter is_kept_written (sections_written ss))
 
-  abbrev locals : Faults
-  locals = too_many_locals p.line (all_values s (filter is_of_body s.locals))
+  abbrev of_body_in : List (Section ℕ) → Faults
+  of_body_in ss = flat_map (λ w. item_too_deep decls s w.item) (filter is_body_written (sections_written ss))
 
-  abbrev kept : Faults
-  kept = flat_map (λ w. too_deep s (declarations decls) 63 p.line w.item.kind) (filter is_kept_written (sections_written p.sections))
-
-  abbrev of_body : Faults
-  of_body = flat_map (λ w. item_too_deep decls s w.item) (filter is_body_written (sections_written p.sections))
-
-  pub limits_found : (written : List (Section ℕ)) (list names : List WrittenName) (sizes : TypeSizes) (vs : List DeclaredVariable) (cycles many values deep inner one two three r : Option (Code × ℕ)) (sum : ℕ) → Measures sizes s → vs ≡ s.locals
-      → names ≡ list → written ≡ p.sections → map global_of list ≡ names_in_sections written → map written_of list ≡ sections_written written
+  pub limits_found : (written : List (Section ℕ)) (list names : List WrittenName) (cycles deep inner both r : Option (Code × ℕ)) → names ≡ list → written ≡ p.sections → map global_of list ≡ names_in_sections written
       → ((ss : List (Section ℕ)) → map global_of names ≡ names_in_sections ss → cycles ≡ least (inner_cycles (sections_written ss)))
-      → many ≡ least (too_many_parameters p.line (length (filter is_parameter_written (map written_of names))))
-      → ((z : Scope) → Measures sizes z → (n : ℕ) → 0 ≡ capped n → sum ≡ capped (n + all_values z (filter is_of_body vs)))
-      → ((n : ℕ) → sum ≡ capped n → values ≡ least (too_many_locals p.line n))
-      → ((ss : List (Section ℕ)) → map global_of names ≡ names_in_sections ss → deep ≡ least (flat_map (λ w. too_deep s (declarations decls) 63 p.line w.item.kind) (filter is_kept_written (sections_written ss))))
-      → ((ss : List (Section ℕ)) → map global_of names ≡ names_in_sections ss → inner ≡ least (flat_map (λ w. item_too_deep decls s w.item) (filter is_body_written (sections_written ss))))
-      → one ≡ earlier many values → two ≡ earlier one deep → three ≡ earlier two inner → r ≡ earlier cycles three → r ≡ least (cycles_and_limits decls s p)
-  limits_found written list names sizes vs cycles many values deep inner one two three r sum m v q z u x c y a t k b e f h i =
+      → ((ss : List (Section ℕ)) → map global_of names ≡ names_in_sections ss → deep ≡ least (kept_in ss)) → ((ss : List (Section ℕ)) → map global_of names ≡ names_in_sections ss → inner ≡ least (of_body_in ss))
+      → both ≡ earlier deep inner → r ≡ earlier cycles both → r ≡ least (cycles_and_limits decls s p)
+  limits_found written list names cycles deep inner both r q z u c k b e i =
       let g : map global_of names ≡ names_in_sections p.sections = ap (map global_of) q ∙ u ∙ ap names_in_sections z in
-      let w : map written_of names ≡ sections_written p.sections = ap (map written_of) q ∙ x ∙ ap sections_written z in
-      let none : 0 + all_values s (filter is_of_body vs) ≡ all_values s (filter is_of_body vs) = omega arith in
-      let n : values ≡ least locals =
-      t (0 + all_values s (filter is_of_body vs)) (a s m 0 refl) ∙ ap (λ k. least (too_many_locals p.line k)) none ∙ ap (λ us. least (too_many_locals p.line (all_values s (filter is_of_body us)))) v in
-      joined r cycles three (inner_cycles (sections_written p.sections)) (program_limits decls s p) i (c p.sections g)
-      (joined three two inner (parameters ++ locals ++ kept) of_body h
-      (joined two one deep (parameters ++ locals) kept f
-      (joined one many values parameters locals e (y ∙ ap (λ ws. least (too_many_parameters p.line (length (filter is_parameter_written ws)))) w) n)
-      (k p.sections g))
-      (b p.sections g))
+      joined r cycles both (inner_cycles (sections_written p.sections)) (program_limits decls s p) i (c p.sections g) (joined both deep inner (kept_in p.sections) (of_body_in p.sections) e (k p.sections g) (b p.sections g))
 
 -- ---- a program
 

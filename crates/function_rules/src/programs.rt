@@ -12,12 +12,11 @@ use declared_graph::inner_cycles_fault;
 use name_spaces::section_names;
 use plc_text::{Code, NoMemory};
 use routine_rules::depth_rules::{body_depth_fault, kept_depth_fault};
-use routine_rules::limit_rules::{add_body_values, parameters_fault, too_many_locals};
 use routine_rules::name_rules::space_fault;
 use routine_rules::variable_rules::{CheckedSections, check_sections};
 use routine_rules::{FoundBody, UnitParts, body_found};
 use section_rules::Home;
-use st_rules::{DeclaredVariable, earlier};
+use st_rules::earlier;
 use st_scope::Scope;
 use st_tree::{Name, Note, ProgramDecl};
 use std::alloc::Global;
@@ -38,11 +37,9 @@ fn limits_fault(
     alloc: Global,
     s: &Scope<'_>,
     parts: &UnitParts<'_>,
-    variables: &[DeclaredVariable],
     program: &ProgramDecl<u32>,
 ) -> Result<Option<(Code, u32)>, NoMemory>
-    requires parts { Serves parts.now s.now }
-    requires variables { variables.now ≡ s.now.locals }
+    requires { Serves parts.now s.now }
     ensures { IfOk result (λ f. f ≡ least (cycles_and_limits parts.now.graph.now.decls s.now program.now)) }
 {
     let line = program.line;
@@ -51,13 +48,9 @@ fn limits_fault(
     let list = written_names(alloc, sections)?;
     let names = list.as_slice();
     let cycles = inner_cycles_fault(alloc, names)?;
-    let many = parameters_fault(line, names);
-    let sum = add_body_values(sizes, 0, variables);
-    let values = too_many_locals(line, sum);
     let kept = kept_depth_fault(alloc, s, sizes, graph, line, names)?;
     let of_body = body_depth_fault(alloc, s, sizes, graph, names)?;
-    let limits = earlier(earlier(earlier(many, values), kept), of_body);
-    Ok(earlier(cycles, limits))
+    Ok(earlier(cycles, earlier(kept, of_body)))
 }
 
 /// A program of this name, whose names and limits break these besides.
@@ -90,23 +83,21 @@ fn program_of(
     }
 }
 
-/// Checks a program in its scope with its variables.
+/// Checks a program in the scope with its variables.
 fn check_in(
     alloc: Global,
     s: &Scope<'_>,
     parts: &UnitParts<'_>,
-    variables: &[DeclaredVariable],
     program: &ProgramDecl<u32>,
 ) -> Result<CheckedProgram, NoMemory>
-    requires parts { Serves parts.now s.now }
-    requires variables { variables.now ≡ s.now.locals }
+    requires { Serves parts.now s.now }
     ensures { IfOk result (λ c. ProgramIn c parts.now.graph.now.decls s.now program.now) }
 {
     let sections = program.sections.as_slice();
     let list = section_names(alloc, sections)?;
     let all = list.as_slice();
     let names = space_fault(alloc, all)?;
-    let limits = limits_fault(alloc, s, parts, variables, program)?;
+    let limits = limits_fault(alloc, s, parts, program)?;
     let name = program.name.copy(alloc)?;
     let (tables, classes) = (parts.names, parts.classes);
     let found = check_sections(alloc, s, tables, classes, Home::Program, sections)?;
@@ -130,6 +121,6 @@ pub fn check_program(
     let variables = list.as_slice();
     let s = tables.scope(alloc, None, false, variables)?;
     let parts = parts_of(tables);
-    let c = check_in(alloc, &s, &parts, variables, program)?;
+    let c = check_in(alloc, &s, &parts, program)?;
     Ok(c)
 }

@@ -12,9 +12,9 @@ use Rattle.st_rules.specs.Scope.{Scope}
 use Rattle.st_rules.proofs.FaultLaws.{least-append}
 use Rattle.declared_names.specs.Declarations.{declarations, item_line}
 use Rattle.declared_names.specs.UnitNames.{unit_names}
-use Rattle.declared_names.specs.WrittenTypes.{type_written, has_too_many_dimensions}
+use Rattle.declared_names.specs.WrittenTypes.{type_written}
 use Rattle.st_unit_rules.specs.DeclarationRules.{unit, item_too_deep}
-use Rattle.st_unit_rules.specs.Limits.{too_deep}
+use Rattle.st_unit_rules.specs.Limits.{most_steps, variable_too_deep}
 use Rattle.st_unit_rules.specs.VariableRules.{of_globals, item_faults}
 use Rattle.variable_rules.specs.CheckedType.{CheckedType}
 use Rattle.variable_rules.specs.Types.{ChecksType}
@@ -33,19 +33,19 @@ module _ (c : SharedItem) (kind : CheckedType) (item : CheckedItem) (decls : Lis
       let found : ChecksItem item (unit decls) of_globals section written = subst (λ (x : Scope). ChecksItem item x of_globals section written) e f in
       record {
         kind = w.kind-is ∙ told.kind;
-        least = w.least-is told.kind told.too_many ∙ ap (λ x. earlier x (least (item_too_deep decls (unit decls) written))) found.least
+        least = w.least-is told.kind ∙ ap (λ x. earlier x (least (item_too_deep decls (unit decls) written))) found.least
             ∙ sym (least-append (item_faults (unit decls) of_globals section written) (item_too_deep decls (unit decls) written));
       }
 
   pub shared_parts : (sizes : TypeSizes) (graph : Unit) (line : ℕ) (deep : Option (Code × ℕ)) → c.kind ≡ kind.kind → c.least ≡ earlier item.least deep
       → ((s : Scope) → s.classes ≡ classes_in decls → s.names ≡ unit_names decls → Measures sizes s) → graph.decls ≡ decls → line ≡ item_line written
-      → ((s : Scope) → Measures sizes s → kind.kind ≡ type_written s written.kind → kind.too_many ≡ has_too_many_dimensions s written.kind → deep ≡ least (too_deep s (declarations graph.decls) 64 line written.kind))
+      → ((s : Scope) → Measures sizes s → kind.kind ≡ type_written s written.kind → deep ≡ least (variable_too_deep s (declarations graph.decls) most_steps line written.kind))
       → IsShared c kind item decls written
   shared_parts sizes graph line deep k l m g n d = record {
     kind-is = k;
-    least-is = λ t b.
+    least-is = λ t.
         l
-        ∙ ap (earlier item.least) (d (unit decls) (m (unit decls) refl refl) t b
-        ∙ ap (λ (ds : List (Decl ℕ)). least (too_deep (unit decls) (declarations ds) 64 line written.kind)) g
-        ∙ ap (λ (x : ℕ). least (too_deep (unit decls) (declarations decls) 64 x written.kind)) n);
+        ∙ ap (earlier item.least) (d (unit decls) (m (unit decls) refl refl) t
+        ∙ ap (λ (ds : List (Decl ℕ)). least (variable_too_deep (unit decls) (declarations ds) most_steps line written.kind)) g
+        ∙ ap (λ (x : ℕ). least (variable_too_deep (unit decls) (declarations decls) most_steps x written.kind)) n);
   }

@@ -39,18 +39,16 @@ fn shared_of(
     let CheckedType {
         kind,
         least: _,
-        too_many,
         tree: _,
     } = kind;
     let CheckedItem { least, item: _ } = item;
     let deep = too_deep(
         tables.sizes(),
         tables.graph(),
-        Within::Unit,
+        Within::Variable,
         item_line(written),
         &written.kind,
         &kind,
-        too_many,
     );
     SharedItem {
         kind,

@@ -1,13 +1,15 @@
--- How many steps of containment may lead from a type.
-use Rattle.std.specs.Prelude.{ℕ, suc}
+-- How many steps of containment may lead from a type, by where it is written.
+use Rattle.std.specs.Prelude.{ℕ, ◌-◌, List}
+use Rattle.st_tree.specs.declared.type_spec.TypeSpec.{TypeSpec}
+use Rattle.st_rules.specs.Faults.{Faults}
+use Rattle.st_rules.specs.Scope.{Scope}
+use Rattle.declared_names.specs.Declarations.{Declaration}
+use Rattle.st_unit_rules.specs.Limits.{most_steps, too_deep, variable_too_deep}
 use Rattle.limit_rules.specs.declared.depths.Within.{Within}
 use Rattle.limit_rules.specs.declared.depths.Within.TheVariants as within
 
 -- a program instance is one step from what its variables hold
-abbrev pub allowed : Within → ℕ
-allowed within.Unit = 64
-allowed within.Program = 63
-
--- one step more is too many
-abbrev pub passed : Within → ℕ
-passed w = suc (allowed w)
+abbrev pub depth_faults : Within → Scope → List Declaration → ℕ → TypeSpec ℕ → Faults
+depth_faults within.Entry s ds line t = too_deep s ds most_steps line t
+depth_faults within.Variable s ds line t = variable_too_deep s ds most_steps line t
+depth_faults within.Program s ds line t = too_deep s ds (most_steps - 1) line t

@@ -1,7 +1,6 @@
 //! Types with too many steps of containment.
 
-ghost use Rattle.std.specs.Prelude.{◌≡◌, Bool, ◌&&◌, ◌||◌, not, List};
-ghost use Rattle.std.specs.List.{list_any};
+ghost use Rattle.std.specs.Prelude.{◌≡◌, ◌&&◌, ◌||◌, not, Some};
 ghost use Rattle.plc_text.specs.declared.code.Code.TheVariants.{E16};
 ghost use Rattle.st_types.specs.declared.st_type.StType.TheVariants as type;
 ghost use Rattle.st_tree.specs.declared.type_spec.TypeSpec.{TypeSpec};
@@ -9,25 +8,29 @@ ghost use Rattle.st_rules.specs.Faults as faults;
 ghost use Rattle.st_rules.specs.Faults.{least};
 ghost use Rattle.st_rules.specs.Scope.{Scope};
 ghost use Rattle.declared_names.specs.Declarations.{declarations};
-ghost use Rattle.declared_names.specs.WrittenTypes.{type_written, has_too_many_dimensions};
+ghost use Rattle.declared_names.specs.WrittenTypes.{type_written};
 ghost use Rattle.st_unit_rules.specs.Cycles as cycles;
 ghost use Rattle.st_unit_rules.specs.Limits as limits;
 ghost use Rattle.type_sizes.specs.Sizes.{Measures};
 ghost use Rattle.limit_rules.specs.Depths as depths;
+ghost use Rattle.limit_rules.specs.Private.Depths as own;
 
 use declared_graph::DeclaredGraph;
+use declared_names::has_fewer_dimensions;
 use plc_text::Code;
 use st_rules::when;
 use st_tree::{SimpleSpec, TypeSpec};
 use st_types::StType;
 use type_sizes::TypeSizes;
 
-/// Where a type is written: a program instance is one step of containment from what its variables hold.
+/// Where a type is written.
 #[derive(Clone, Copy, Debug, PartialEq, Eq)]
 pub enum Within {
-    /// A variable of a class, a routine or a global, a field or an entry of TYPE: 64 steps may lead from its type.
-    Unit,
-    /// A variable of a program: 63.
+    /// An entry of TYPE: 64 steps of containment may lead from its type.
+    Entry,
+    /// A variable of a class, a routine or a global, a parameter or a result: 64 steps, and it may have 64 dimensions.
+    Variable,
+    /// A variable of a program, whose instance is one step of containment from what its variables hold: 63 steps.
     Program,
 }
 
@@ -45,21 +48,46 @@ fn is_endless(graph: &DeclaredGraph, spec: &TypeSpec<u32>) -> bool
     }
 }
 
-/// Whether a type that was told has more steps than it may have there.
-fn has_more_steps(sizes: &TypeSizes, within: Within, told: &Option<StType>) -> bool
-    ensures { (s : Scope) → Measures sizes.now s → result ≡ limits.has_depth_told s (depths.passed within) told.now }
+/// Whether a type has more than 64 dimensions.
+#[tactic(auto, using(crate::proofs::DepthLaws::not_fewer))]
+fn has_many_dimensions(kind: &StType) -> bool
+    ensures { result ≡ limits.has_many_dimensions (Some kind.now) }
+{
+    !has_fewer_dimensions(kind, 65)
+}
+
+fn either(one: bool, other: bool) -> bool
+    ensures { result ≡ (one || other) }
+{
+    one || other
+}
+
+/// Whether a type has more steps or dimensions than it may have there.
+fn has_more(sizes: &TypeSizes, within: Within, kind: &StType) -> bool
+    ensures { (s : Scope) → Measures sizes.now s → result ≡ own.has_more within s (Some kind.now) }
+{
+    match within {
+        Within::Entry => sizes.is_too_deep(kind),
+        Within::Variable => {
+            let many = has_many_dimensions(kind);
+            either(many, sizes.is_too_deep(kind))
+        }
+        Within::Program => sizes.is_too_deep_in_program(kind),
+    }
+}
+
+/// The same of a type that may have been told.
+fn told_has_more(sizes: &TypeSizes, within: Within, told: &Option<StType>) -> bool
+    ensures { (s : Scope) → Measures sizes.now s → result ≡ own.has_more within s told.now }
 {
     match told {
-        Some(kind) => match within {
-            Within::Unit => sizes.is_too_deep(kind),
-            Within::Program => sizes.is_too_deep_in_program(kind),
-        },
+        Some(kind) => has_more(sizes, within, kind),
         None => false,
     }
 }
 
-/// E16 at the line, where a written type has too many steps of containment, or too many dimensions. `told` is what the type means, and
-/// `dimensions` whether arrays lie in one another more than 64 deep, as the scope tells both. What contains itself has no depth.
+/// E16 at the line, where a written type has too many steps of containment, or too many dimensions. `told` is what the type means, as
+/// the scope tells it. What contains itself has no depth.
 pub fn too_deep(
     sizes: &TypeSizes,
     graph: &DeclaredGraph,
@@ -67,45 +95,41 @@ pub fn too_deep(
     line: u32,
     spec: &TypeSpec<u32>,
     told: &Option<StType>,
-    dimensions: bool,
 ) -> Option<(Code, u32)>
-    ensures { (s : Scope) → Measures sizes.now s → told.now ≡ type_written s spec.now → dimensions ≡ has_too_many_dimensions s spec.now
-        → result ≡ least (limits.too_deep s (declarations graph.now.decls) (depths.allowed within) line spec.now) }
+    ensures { (s : Scope) → Measures sizes.now s → told.now ≡ type_written s spec.now
+        → result ≡ least (depths.depth_faults within s (declarations graph.now.decls) line spec.now) }
 {
-    let deeper = has_more_steps(sizes, within, told) && !is_endless(graph, spec);
-    when(dimensions || deeper, Code::E16, line)
+    let deep = told_has_more(sizes, within, told);
+    let endless = is_endless(graph, spec);
+    when(deep && !endless, Code::E16, line)
 }
 
-/// E16 at the line, where the structure of that number, which is declared at that place, has too many steps of containment, or one of
-/// its fields has too many dimensions.
+/// E16 at the line, where the structure of that number, which is declared at that place, has too many steps of containment.
 pub fn structure_too_deep(
     sizes: &TypeSizes,
     graph: &DeclaredGraph,
     line: u32,
     place: usize,
     number: u32,
-    dimensions: bool,
 ) -> Option<(Code, u32)>
     ensures { (s : Scope) → Measures sizes.now s
-        → result ≡ least (faults.when ((limits.has_depth s 65 (type.Structure number) || dimensions) && not (cycles.leads_to_cycle (declarations graph.now.decls) place)) E16 line) }
+        → result ≡ least (faults.when (limits.is_too_deep s (type.Structure number) && not (cycles.leads_to_cycle (declarations graph.now.decls) place)) E16 line) }
 {
-    let deep = sizes.is_too_deep(&StType::Structure(number)) || dimensions;
+    let deep = sizes.is_too_deep(&StType::Structure(number));
     when(deep && !graph.leads_to_cycle(place), Code::E16, line)
 }
 
-/// E16 at the line, where the class of that number, which is declared at that place, has too many steps of containment, or one of its
-/// variables has too many dimensions.
+/// E16 at the line, where the class of that number, which is declared at that place, has too many steps of containment.
 pub fn class_too_deep(
     sizes: &TypeSizes,
     graph: &DeclaredGraph,
     line: u32,
     place: usize,
     class: u32,
-    dimensions: bool,
 ) -> Option<(Code, u32)>
     ensures { (s : Scope) → Measures sizes.now s
-        → result ≡ least (faults.when ((limits.has_depth s 65 (type.Instance class) || dimensions) && not (cycles.leads_to_cycle (declarations graph.now.decls) place)) E16 line) }
+        → result ≡ least (faults.when (limits.is_too_deep s (type.Instance class) && not (cycles.leads_to_cycle (declarations graph.now.decls) place)) E16 line) }
 {
-    let deep = sizes.is_too_deep(&StType::Instance(class)) || dimensions;
+    let deep = sizes.is_too_deep(&StType::Instance(class));
     when(deep && !graph.leads_to_cycle(place), Code::E16, line)
 }

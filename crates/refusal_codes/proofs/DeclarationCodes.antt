@@ -35,7 +35,7 @@ use Rattle.refusal_codes.proofs.FaultWords.{Usual, none, ◌also◌, if_broken, 
 use Rattle.refusal_codes.proofs.StatementCodes.{body_faults_usual}
 use Rattle.refusal_codes.proofs.ClassCodes.{class_faults_usual, concrete_class_faults_usual, interface_faults_usual}
 use Rattle.refusal_codes.proofs.TypeCodes.{type_faults_usual}
-use Rattle.refusal_codes.proofs.NameCodes.{configuration_name_faults_usual, cycle_faults_usual, inner_cycles_usual, local_name_faults_usual, member_name_faults_usual, prototype_name_faults_usual, space_faults_usual, tasks_and_instances_usual}
+use Rattle.refusal_codes.proofs.NameCodes.{configuration_name_faults_usual, cycle_faults_usual, inner_cycles_usual, local_name_faults_usual, member_name_faults_usual, prototype_name_faults_usual, space_faults_usual, tasks_and_instances_usual, own_values_usual}
 use Rattle.refusal_codes.proofs.VariableCodes.{heading_faults_usual, initial_faults_usual, item_faults_usual, result_faults_usual, sections_faults_usual}
 
 module _ (decls : List (Decl ℕ)) where
@@ -46,7 +46,7 @@ module _ (decls : List (Decl ℕ)) where
   parameter_limits_usual : (s : Scope) (line : ℕ) (result : Option (TypeSpec ℕ)) (sections : List (Section ℕ)) → Usual (parameter_limits decls s line result sections)
   parameter_limits_usual s line result sections =
       if_broken _ E16 _ refl
-      also of_each _ (λ x. if_broken _ E16 _ refl) (items_in sections)
+      also of_each _ (λ x. if_broken _ E16 _ refl) (items_in (filter (λ x. not (is_external x.sort)) sections))
       also result_too_deep_usual s line result
 
   routine_faults_usual : (s : Scope) (home : Home) (line : ℕ) (name : List ℕ) (result : Option (TypeSpec ℕ)) (sections : List (Section ℕ)) (text : List (Stmt ℕ)) → Usual (routine_faults decls s home line name result sections text)
@@ -84,10 +84,10 @@ module _ (decls : List (Decl ℕ)) where
   body_depth_usual line i n (body.Enumeration ns) = none
   body_depth_usual line i n (body.Structure gs) = if_broken _ E16 _ refl
 
-  type_body_faults_usual : (b : TypeBody ℕ) → Usual (type_body_faults decls b)
-  type_body_faults_usual (body.Alias t) = type_faults_usual (unit decls) t
-  type_body_faults_usual (body.Enumeration ns) = none
-  type_body_faults_usual (body.Structure gs) = of_each _ group_faults_usual gs
+  type_body_faults_usual : (name : List ℕ) (b : TypeBody ℕ) → Usual (type_body_faults decls name b)
+  type_body_faults_usual name (body.Alias t) = type_faults_usual (unit decls) t also own_values_usual name t
+  type_body_faults_usual name (body.Enumeration ns) = none
+  type_body_faults_usual name (body.Structure gs) = of_each _ group_faults_usual gs
 
   base_not_found_usual : (x : Option (Used ℕ)) → Usual (base_not_found decls x)
   base_not_found_usual None = none
@@ -134,9 +134,7 @@ module _ (decls : List (Decl ℕ)) where
   program_limits_usual : (s : Scope) (p : ProgramDecl ℕ) → Usual (program_limits decls s p)
   program_limits_usual s p =
       let ws = sections_written p.sections in
-      if_broken _ E16 _ refl
-      also if_broken _ E16 _ refl
-      also of_each _ (λ w. if_broken _ E16 _ refl) (filter is_kept_written ws)
+      of_each _ (λ w. if_broken _ E16 _ refl) (filter is_kept_written ws)
       also of_each _ (λ w. if_broken _ E16 _ refl) (filter is_body_written ws)
 
   program_faults_usual : (p : ProgramDecl ℕ) → Usual (program_faults decls p)
@@ -171,7 +169,7 @@ module _ (decls : List (Decl ℕ)) where
   sort_faults_usual : (i : ℕ) (x : Placed) (x' : Declaration) → Usual (sort_faults decls i x x')
   sort_faults_usual i x (an_entry t) =
       space_faults_usual (part_names t.body)
-      also type_body_faults_usual t.body
+      also type_body_faults_usual t.name.text t.body
       also body_depth_usual t.name.line i (number_among is_entry x) t.body
   sort_faults_usual i x (a_global g) = global_faults_usual x.regions g
   sort_faults_usual i x (an_interface d) = interface_declaration_faults_usual (number_among is_interface x) d

@@ -12,11 +12,12 @@ use Rattle.st_tree.specs.declared.configuration.Setting.{Setting}
 use Rattle.st_tree.specs.declared.configuration.SettingValue.{SettingValue}
 use Rattle.st_tree.specs.declared.configuration.SettingValue.TheVariants as value
 use Rattle.st_tree.specs.declared.configuration.TaskSpec.{TaskSpec}
+use Rattle.st_tree.specs.declared.type_spec.TypeSpec.{TypeSpec}
 use Rattle.st_rules.specs.Classes.{methods_in, method_names}
 use Rattle.declared_names.specs.Declarations.{configuration_globals, Declaration}
 use Rattle.declared_names.specs.Variables.{Written}
 use Rattle.st_unit_rules.specs.NameRules.{texts, declared_twice, space_faults, section_names, local_name_faults, member_names, own_variables, of_bases, variable_texts, member_name_faults, prototype_name_faults, configuration_name_faults}
-use Rattle.st_unit_rules.specs.Cycles.{cycle_faults, inner_cycles}
+use Rattle.st_unit_rules.specs.Cycles.{Named, alone, before_dot, before_hash, named_in_bounds, cycle_faults, inner_cycles, own_value, own_values}
 use Rattle.st_unit_rules.specs.ConfigurationRules.{setting_past_its_limit, settings_faults, task_faults, instance_faults, tasks_and_instances}
 use Rattle.refusal_codes.proofs.FaultWords.{Usual, none, ◌also◌, if_broken, of_each, of_numbered}
 use Rattle.refusal_codes.proofs.PlaceCodes.{time_past_32_bits_usual}
@@ -66,6 +67,15 @@ module _ (ws : List Written) where
   pub inner_cycles_usual : Usual (inner_cycles ws)
   unfolding inner_cycles
   inner_cycles_usual = of_numbered _ (λ n x. if_broken _ E06 _ refl) 0 ws
+
+own_value_usual : (name : List ℕ) (n : Named) → Usual (own_value name n)
+own_value_usual name (alone t) = none
+own_value_usual name (before_dot t) = none
+own_value_usual name (before_hash l t) = if_broken _ E05 _ refl
+
+pub own_values_usual : (name : List ℕ) (t : TypeSpec ℕ) → Usual (own_values name t)
+unfolding own_values
+own_values_usual name t = of_each _ (own_value_usual name) (named_in_bounds t)
 
 -- ---- configurations
 

@@ -1,6 +1,6 @@
 -- A routine from its parts.
 use Rattle.std.proofs.Common.{◌≡◌, ℕ, List, [], ◌++◌, Option, Some, None, refl, sym, ap, ◌∙◌, subst, map, length}
-use Rattle.std.specs.Prelude.{filter, flat_map}
+use Rattle.std.specs.Prelude.{not, filter, flat_map}
 use Rattle.plc_text.specs.declared.code.Code.{Code}
 use Rattle.st_tree.specs.declared.declaration.Section.{Section}
 use Rattle.st_tree.specs.declared.program.Note.{Note}
@@ -10,7 +10,7 @@ use Rattle.st_tree.specs.declared.unit.Decl.{Decl}
 use Rattle.st_tree.specs.Statement.{statements_of}
 use Rattle.st_rules.specs.declared.names.DeclaredVariable.{DeclaredVariable}
 use Rattle.st_rules.specs.Faults.{Faults, least, earlier}
-use Rattle.st_rules.specs.Scope.{Scope}
+use Rattle.st_rules.specs.Scope.{Scope, is_external}
 use Rattle.st_rules.specs.Statements.{body_faults, typed_statements}
 use Rattle.st_rules.proofs.FaultLaws.{least-append, earlier-assoc}
 use Rattle.st_check_expr.specs.declared.broken.Broken.{Broken}
@@ -50,12 +50,12 @@ module _ (decls : List (Decl ℕ)) (s : Scope) (line : ℕ) (spec : Option (Type
   pub limits_found : (list names : List WrittenName) (cycles many items deep inner behind r : Option (Code × ℕ)) → names ≡ list → map global_of list ≡ names_in_sections sections → map written_of list ≡ sections_written sections
       → ((ss : List (Section ℕ)) → map global_of names ≡ names_in_sections ss → cycles ≡ least (inner_cycles (sections_written ss)))
       → many ≡ least (too_many_parameters line (length (filter is_parameter_written (map written_of names))))
-      → items ≡ least (flat_map (item_too_deep decls s) (items_in sections)) → deep ≡ least (result_too_deep decls s line spec)
+      → items ≡ least (flat_map (item_too_deep decls s) (items_in (filter (λ x. not (is_external x.sort)) sections))) → deep ≡ least (result_too_deep decls s line spec)
       → inner ≡ earlier many items → behind ≡ earlier inner deep → r ≡ earlier cycles behind → r ≡ least (cycles_and_limits decls s line spec sections)
   limits_found list names cycles many items deep inner behind r n g w c m i d e f h =
       joined r cycles behind (inner_cycles (sections_written sections)) (parameter_limits decls s line spec sections) h (c sections (ap (map global_of) n ∙ g))
-      (joined behind inner deep (too_many_parameters line (count_parameters sections) ++ flat_map (item_too_deep decls s) (items_in sections)) (result_too_deep decls s line spec) f
-      (joined inner many items (too_many_parameters line (count_parameters sections)) (flat_map (item_too_deep decls s) (items_in sections)) e
+      (joined behind inner deep (too_many_parameters line (count_parameters sections) ++ flat_map (item_too_deep decls s) (items_in (filter (λ x. not (is_external x.sort)) sections))) (result_too_deep decls s line spec) f
+      (joined inner many items (too_many_parameters line (count_parameters sections)) (flat_map (item_too_deep decls s) (items_in (filter (λ x. not (is_external x.sort)) sections))) e
       (m ∙ ap (λ ws. least (too_many_parameters line (length (filter is_parameter_written ws)))) (ap (map written_of) n ∙ w)) i)
       d)
 

@@ -12,8 +12,8 @@ use Rattle.variable_rules.specs.CheckedType.{CheckedType}
 use Rattle.entry_rules.specs.declared.bodies.CheckedBody.{CheckedBody}
 use Rattle.entry_rules.specs.declared.groups.CheckedGroups.{CheckedGroups}
 
-pub record IsAlias (c : CheckedBody) (found : CheckedType) (depth : Option (Code × ℕ)) : Type 0 where
-  pub least : c.least ≡ earlier found.least depth
+pub record IsAlias (c : CheckedBody) (found : CheckedType) (own depth : Option (Code × ℕ)) : Type 0 where
+  pub least : c.least ≡ earlier (earlier found.least own) depth
   pub body : c.body ≡ body.Alias found.tree
 
 pub record IsEnumeration (c : CheckedBody) (names : List Name) : Type 0 where
@@ -24,6 +24,6 @@ pub record IsStructure (c : CheckedBody) (found : CheckedGroups) (depth : Option
   pub least : c.least ≡ earlier found.least depth
   pub body : c.body ≡ body.Structure found.groups
 
-pub record BodyChecks (c : CheckedBody) (decls : List (Decl ℕ)) (line place number : ℕ) (t : TypeBody ℕ) : Type 0 where
-  pub least : c.least ≡ least (type_body_faults decls t ++ body_depth decls line place number t)
+pub record BodyChecks (c : CheckedBody) (decls : List (Decl ℕ)) (own : Name) (place number : ℕ) (t : TypeBody ℕ) : Type 0 where
+  pub least : c.least ≡ least (type_body_faults decls own.text t ++ body_depth decls own.line place number t)
   pub body : TypedTypeBody decls t c.body

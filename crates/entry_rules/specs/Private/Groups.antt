@@ -1,13 +1,12 @@
 -- Fields of a structure.
-use Rattle.std.specs.Prelude.{◌≡◌, ℕ, Bool, false, ◌||◌, List, [], ◌∷◌, ◌++◌, flat_map, None, option_map}
-use Rattle.std.specs.List.{list_any}
+use Rattle.std.specs.Prelude.{◌≡◌, ℕ, false, List, [], ◌∷◌, ◌++◌, flat_map, None, option_map}
 use Rattle.st_tree.specs.declared.declaration.FieldGroup.{FieldGroup}
 use Rattle.st_tree.specs.declared.name.Name.{Name}
 use Rattle.st_tree.specs.Initial.{initial_of}
 use Rattle.st_rules.specs.Faults.{Faults, least, earlier}
 use Rattle.st_rules.specs.Scope.{Scope}
 use Rattle.declared_names.specs.Declarations.{item_line_of}
-use Rattle.declared_names.specs.WrittenTypes.{type_written, type_faults, has_too_many_dimensions}
+use Rattle.declared_names.specs.WrittenTypes.{type_written, type_faults}
 use Rattle.st_unit_rules.specs.Checked.{Each, TypedGroup}
 use Rattle.st_unit_rules.specs.VariableRules.{instance_out_of_place, initial_if_given}
 use Rattle.variable_rules.specs.CheckedType.{CheckedType}
@@ -24,27 +23,22 @@ group_in s g =
 -- fields of these names, which stand at this line
 pub record IsGroup (c : CheckedGroup) (line : ℕ) (own : List Name) (found : CheckedType) (given : CheckedGiven) : Type 0 where
   pub least : c.least ≡ earlier (earlier found.least (least (instance_out_of_place line false found.kind))) given.least
-  pub too_many : c.too_many ≡ found.too_many
   pub names : c.group.names ≡ own
   pub kind : c.group.kind ≡ found.tree
   pub initial : c.group.initial ≡ given.initial
 
 pub record GroupChecks (c : CheckedGroup) (s : Scope) (g : FieldGroup ℕ) : Type 0 where
   pub least : c.least ≡ least (group_in s g)
-  pub too_many : c.too_many ≡ has_too_many_dimensions s g.kind
   pub tree : TypedGroup s g c.group
 
 pub record NoGroups (x : CheckedGroups) : Type 0 where
   pub least : x.least ≡ None
-  pub too_many : x.too_many ≡ false
   pub groups : x.groups ≡ []
 
 pub record AddsGroup (x before : CheckedGroups) (one : CheckedGroup) : Type 0 where
   pub least : x.least ≡ earlier before.least one.least
-  pub too_many : x.too_many ≡ (before.too_many || one.too_many)
   pub groups : x.groups ≡ before.groups ++ one.group ∷ []
 
 pub record GroupsFind (x : CheckedGroups) (s : Scope) (gs : List (FieldGroup ℕ)) : Type 0 where
   pub least : x.least ≡ least (flat_map (group_in s) gs)
-  pub too_many : x.too_many ≡ list_any (λ g. has_too_many_dimensions s g.kind) gs
   pub trees : Each (TypedGroup s) gs x.groups

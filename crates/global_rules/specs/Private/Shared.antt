@@ -3,7 +3,7 @@ use Rattle.std.specs.Prelude.{◌≡◌, ℕ, List}
 use Rattle.st_tree.specs.declared.declaration.Item.{Item}
 use Rattle.st_tree.specs.declared.unit.Decl.{Decl}
 use Rattle.st_rules.specs.Faults.{least, earlier}
-use Rattle.declared_names.specs.WrittenTypes.{type_written, has_too_many_dimensions}
+use Rattle.declared_names.specs.WrittenTypes.{type_written}
 use Rattle.st_unit_rules.specs.DeclarationRules.{unit, item_too_deep}
 use Rattle.variable_rules.specs.CheckedType.{CheckedType}
 use Rattle.variable_rules.specs.declared.items.CheckedItem.{CheckedItem}
@@ -11,4 +11,4 @@ use Rattle.global_rules.specs.declared.shared.SharedItem.{SharedItem}
 
 pub record IsShared (c : SharedItem) (kind : CheckedType) (item : CheckedItem) (decls : List (Decl ℕ)) (written : Item ℕ) : Type 0 where
   pub kind-is : c.kind ≡ kind.kind
-  pub least-is : kind.kind ≡ type_written (unit decls) written.kind → kind.too_many ≡ has_too_many_dimensions (unit decls) written.kind → c.least ≡ earlier item.least (least (item_too_deep decls (unit decls) written))
+  pub least-is : kind.kind ≡ type_written (unit decls) written.kind → c.least ≡ earlier item.least (least (item_too_deep decls (unit decls) written))

@@ -1,13 +1,10 @@
 use Rattle.std.proofs.Common.{false, None}
-use Rattle.function_rules.proofs.PartLaws.{serves_scope, own_locals}
+use Rattle.function_rules.proofs.PartLaws.{serves_scope}
 use Rattle.function_rules.proofs.ProgramLaws.{program_checks}
 use Rattle.function_rules.proofs.programs.check_program.Goals as goal
 
-pub check_in-requires-clause-parts : goal.check_in-requires-clause-parts
-check_in-requires-clause-parts c = serves_scope _ c.args.tables.now.decls None false _ _ c.parts_of-parts.ensures.serves c.in_ok-s.ensures
-
-pub check_in-requires-clause-variables : goal.check_in-requires-clause-variables
-check_in-requires-clause-variables c = own_locals c.args.tables.now.decls None false _ _ c.in_ok-s.ensures
+pub check_in-requires : goal.check_in-requires
+check_in-requires c = serves_scope _ c.args.tables.now.decls None false _ _ c.parts_of-parts.ensures.serves c.in_ok-s.ensures
 
 pub returns : goal.returns
 returns c = program_checks _ c.args.tables.now.decls _ c.args.program.now _ _ _ _ c.parts_of-parts.ensures.unit c.as_slice-sections.ensures c.in_ok-list.ensures c.as_slice-variables.ensures c.in_ok-s.ensures c.in_ok-c.ensures

@@ -3,5 +3,5 @@ use Rattle.function_rules.proofs.programs.limits_fault.Goals as goal
 
 pub returns : goal.returns
 returns c =
-    limits_found c.args.parts.now.graph.now.decls c.args.s.now c.args.program.now _ _ _ _ _ _ _ _ _ _ _ _ _ _ _ c.requires.parts.sizes c.requires.variables c.as_slice-names.ensures.value c.as_slice-sections.ensures c.in_ok-list.ensures.names c.in_ok-list.ensures.written c.in_ok-cycles.ensures c.parameters_fault-many.ensures c.add_body_values-sum.ensures c.too_many_locals-values.ensures
-    c.in_ok-kept.ensures c.in_ok-of_body.ensures c.earlier.ensures c.earlier-2.ensures c.earlier-limits.ensures c.earlier-3.ensures
+    limits_found c.args.parts.now.graph.now.decls c.args.s.now c.args.program.now _ _ _ _ _ _ _ _ c.as_slice-names.ensures.value c.as_slice-sections.ensures c.in_ok-list.ensures.names c.in_ok-cycles.ensures c.in_ok-kept.ensures c.in_ok-of_body.ensures c.earlier.ensures
+    c.earlier-2.ensures

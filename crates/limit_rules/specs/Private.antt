@@ -1,0 +1,2 @@
+-- The words of private contracts.
+pub mod Depths
