@@ -244,7 +244,7 @@ module _ {A : Type 0} (classes : List (ClassDecl A)) (interfaces : List (Interfa
       at None = refl
       at (Some interface) = refl
 
-  extended-same : (i : ℕ) → found.extended rows i ≡ interface.extended interfaces i
+  pub extended-same : (i : ℕ) → found.extended rows i ≡ interface.extended interfaces i
   extended-same i = ap (λ o. unwrap_or (option_map (λ (row : InterfaceRow). row.extended) o) []) (interface-at classes interfaces rows t.are_rows i) ∙ at (slice_get interfaces i)
     where
       at : (o : Option (InterfaceDecl A)) → unwrap_or (option_map (λ (row : InterfaceRow). row.extended) (option_map (interface_row (interface_names interfaces)) o)) [] ≡ unwrap_or (option_map (λ j. interface.interfaces_named interfaces j.bases) o) []

@@ -86,6 +86,16 @@ pub fn extends(rows: &UnitRows, reach: &[Row], interface: u32, other: u32) -> bo
     leads(reach, interface as usize, other as usize)
 }
 
+/// The interfaces behind EXTENDS of an interface.
+pub fn extended(rows: &UnitRows, interface: u32) -> &[u32]
+    ensures { result.now ≡ found.extended rows.now interface }
+{
+    match rows.interfaces.get(interface as usize) {
+        Some(row) => row.extended.as_slice(),
+        None => &[],
+    }
+}
+
 /// Whether an interface extends another one that extends it.
 pub fn lies_on_cycle(rows: &UnitRows, reach: &[Row], interface: u32) -> bool
     ensures { result ≡ found.lies_on_cycle rows.now reach.now interface }

@@ -237,6 +237,13 @@ impl ClassTables {
         )
     }
 
+    /// The interfaces behind EXTENDS of an interface, in written order, where they are found.
+    pub fn extended(&self, interface: u32) -> &[u32]
+        ensures { result.now ≡ interfaces.extended (interfaces_in self.now.decls) interface }
+    {
+        found::extended(&self.rows, interface)
+    }
+
     /// Whether an interface is another one or extends it, in any number of steps.
     pub fn extends(&self, interface: u32, other: u32) -> bool
         ensures { result ≡ interfaces.extends (interfaces_in self.now.decls) interface other }

@@ -1,17 +1,18 @@
--- The first methods of a name, by interface, are those that the rules look up.
-use Rattle.std.proofs.Common.{◌≡◌, ℕ, zero, suc, ◌+◌, ◌≤◌, Bool, true, false, List, [], ◌∷◌, ◌++◌, Option, Some, None, map, refl, sym, ap, ◌∙◌, arith}
-use Rattle.std.specs.Prelude.{nat_eq, slice_get, option_map, option_and_then, if◌then◌else◌}
+-- The method that a way upward comes to, by the methods of a name, is the one that the rules look up.
+use Rattle.std.proofs.Common.{◌≡◌, ℕ, zero, suc, ◌+◌, ◌-◌, ◌<◌, ◌≤◌, Bool, true, false, List, [], ◌∷◌, ◌++◌, Option, Some, None, map, refl, sym, ap, ◌∙◌, arith}
+use Rattle.std.specs.Prelude.{nat_eq, ◌&&◌, ◌||◌, slice_get, option_map, option_and_then, is_some, if◌then◌else◌, length}
+use Rattle.std.specs.List.{list_any}
 use Rattle.std.proofs.lemmas.Bool.{eqb-true, eq-eqb}
 use Rattle.plc_text.specs.Words.{same}
 use Rattle.st_tree.specs.declared.declaration.InterfaceDecl.{InterfaceDecl}
 use Rattle.st_tree.specs.declared.unit.Unit.{Unit}
 use Rattle.st_rules.specs.declared.ids.PrototypeId.{PrototypeId}
 use Rattle.st_rules.specs.Named.{first_place}
-use Rattle.st_rules.specs.Numbered.{each_numbered}
+use Rattle.st_rules.specs.Numbered.{each_numbered, any_numbered}
 use Rattle.st_rules.specs.Chains.{◌or_else◌}
-use Rattle.st_rules.specs.Interfaces.{interfaces_in, extends, prototype_names, prototype_id, own_prototype, extended_prototype, interface_lookup}
+use Rattle.st_rules.specs.Interfaces.{interfaces_in, extended, extends, prototype_names, prototype_id, own_prototype, declares, has_prototype, first_with, prototype_within, interface_lookup}
 use Rattle.class_tables.proofs.BridgeLaws.{get-map}
-use Rattle.iface_tables.specs.Private.Declarers.{Table, id_if, ids_of, ids_named, first_of, method_named}
+use Rattle.iface_tables.specs.Private.Declarers.{Table, id_if, ids_of, ids_named, first_of, has_one, method_within, method_named}
 use Rattle.iface_tables.specs.Private.Tables.{AreTables}
 
 -- ---- the first by interface
@@ -96,6 +97,14 @@ own_found name i ps =
     e : 0 + i ≡ i
     e = omega arith
 
+first_same : (f g : ℕ → Bool) → ((k : ℕ) → f k ≡ g k) → (ks : List ℕ) → first_with f ks ≡ first_with g ks
+first_same f g h [] = refl
+first_same f g h (k ∷ ks) = ap (λ b. if b then Some k else first_with f ks) (h k) ∙ ap (λ o. if g k then Some k else o) (first_same f g h ks)
+
+then_same : {X Y : Type 0} (f g : X → Option Y) → ((x : X) → f x ≡ g x) → (o : Option X) → option_and_then f o ≡ option_and_then g o
+then_same f g h None = refl
+then_same f g h (Some x) = h x
+
 module _ (interfaces : List (InterfaceDecl ℕ)) (name : List ℕ) where
   own_there : (i : ℕ) → option_map (prototype_id i) (option_and_then (first_place name) (slice_get (map prototype_names interfaces) i)) ≡ own_prototype interfaces name i
   own_there i = ap (λ o. option_map (prototype_id i) (option_and_then (first_place name) o)) (get-map prototype_names interfaces i) ∙ at (slice_get interfaces i)
@@ -104,21 +113,70 @@ module _ (interfaces : List (InterfaceDecl ℕ)) (name : List ℕ) where
       at None = refl
       at (Some interface) = refl
 
-  extended_scanned : (i n : ℕ) (rest : List (InterfaceDecl ℕ)) → ((k : ℕ) → slice_get interfaces (n + k) ≡ slice_get rest k) → scan (extends interfaces i) name n (map prototype_names rest) ≡ extended_prototype interfaces i name n rest
-  extended_scanned i n [] h = refl
-  extended_scanned i n (x ∷ rest) h =
-      ap (λ o. (if extends interfaces i n then o else None) or_else scan (extends interfaces i) name (suc n) (map prototype_names rest)) (sym (ap (λ o. option_map (prototype_id n) (option_and_then (λ interface. first_place name (prototype_names interface)) o)) first))
-      ∙ ap (λ o. (if extends interfaces i n then own_prototype interfaces name n else None) or_else o) (extended_scanned i (suc n) rest (λ k. ap (slice_get interfaces) (let e : suc n + k ≡ n + suc k = omega arith in e) ∙ h (suc k)))
-    where
-      first : slice_get interfaces n ≡ Some x
-      first = ap (slice_get interfaces) (let e : n ≡ n + 0 = omega arith in e) ∙ h 0
+  -- ---- what has one
 
-  pub looked_up : (i : ℕ) → (first_of (λ j. nat_eq j i) (ids_named (map prototype_names interfaces) name) or_else first_of (extends interfaces i) (ids_named (map prototype_names interfaces) name)) ≡ interface_lookup interfaces i name
+  none_there : (t r : Bool) → r ≡ ((t && false) || r)
+  none_there true r = refl
+  none_there false r = refl
+
+  joined : (t b : Bool) (o : Option ℕ) (r all : Bool) → all ≡ ((t && is_some o) || r) → (if b then (t || all) else all) ≡ ((t && is_some (if b then Some 0 else option_map suc o)) || r)
+  joined true true o r all h = refl
+  joined false true o r all h = h
+  joined t false None r all h = h
+  joined t false (Some k) r all h = h
+
+  module _ (test : ℕ → Bool) where
+    abbrev of_id : PrototypeId → Bool
+    of_id id = test id.interface
+
+    with_id : (n m : ℕ) (b : Bool) (ys rest : List PrototypeId) → list_any of_id (((if b then prototype_id n m ∷ [] else []) ++ ys) ++ rest) ≡ (if b then (test n || list_any of_id (ys ++ rest)) else list_any of_id (ys ++ rest))
+    with_id n m true ys rest = refl
+    with_id n m false ys rest = refl
+
+    any_own : (n m : ℕ) (names : List (List ℕ)) (rest : List PrototypeId) → list_any of_id (each_numbered (id_if name n) m names ++ rest) ≡ ((test n && is_some (first_place name names)) || list_any of_id rest)
+    any_own n m [] rest = none_there (test n) (list_any of_id rest)
+    any_own n m (x ∷ xs) rest =
+        with_id n m (same x name) (each_numbered (id_if name n) (suc m) xs) rest
+        ∙ joined (test n) (same x name) (first_place name xs) (list_any of_id rest) (list_any of_id (each_numbered (id_if name n) (suc m) xs ++ rest)) (any_own n (suc m) xs rest)
+
+    any_named : (n : ℕ) (is : List (InterfaceDecl ℕ)) → list_any of_id (each_numbered (ids_of name) n (map prototype_names is)) ≡ any_numbered (λ j interface. test j && declares name interface) n is
+    any_named n [] = refl
+    any_named n (i ∷ is) =
+        any_own n 0 (prototype_names i) (each_numbered (ids_of name) (suc n) (map prototype_names is))
+        ∙ ap (λ b. (test n && declares name i) || b) (any_named (suc n) is)
+
+  -- ---- what is meant
+
+  abbrev ids : List PrototypeId
+  ids = ids_named (map prototype_names interfaces) name
+
+  own_is : (i : ℕ) → first_of (λ j. nat_eq j i) ids ≡ own_prototype interfaces name i
+  own_is i = scanned (λ j. nat_eq j i) name 0 (map prototype_names interfaces) ∙ own_found name i (map prototype_names interfaces) ∙ own_there i
+
+  has_same : (i : ℕ) → has_one interfaces ids i ≡ has_prototype interfaces name i
+  has_same i = any_named (extends interfaces i) 0 interfaces
+
+  within_same : (n i : ℕ) → method_within interfaces ids n i ≡ prototype_within interfaces name n i
+  within_same zero i = refl
+  within_same (suc n) i =
+      ap (λ o. o or_else option_and_then (method_within interfaces ids n) (first_with (has_one interfaces ids) (extended interfaces i))) (own_is i)
+      ∙ ap (λ o. own_prototype interfaces name i or_else option_and_then (method_within interfaces ids n) o) (first_same (has_one interfaces ids) (has_prototype interfaces name) has_same (extended interfaces i))
+      ∙ ap (λ o. own_prototype interfaces name i or_else o)
+      (then_same (method_within interfaces ids n) (prototype_within interfaces name n) (λ k. within_same n k) (first_with (has_prototype interfaces name) (extended interfaces i)))
+
+  pub looked_up : (i : ℕ) → method_within interfaces ids (length interfaces) i ≡ interface_lookup interfaces i name
   unfolding interface_lookup
-  looked_up i =
-      ap (λ o. o or_else first_of (extends interfaces i) (ids_named (map prototype_names interfaces) name)) (scanned (λ j. nat_eq j i) name 0 (map prototype_names interfaces) ∙ own_found name i (map prototype_names interfaces) ∙ own_there i)
-      ∙ ap (λ o. own_prototype interfaces name i or_else o) (scanned (extends interfaces i) name 0 (map prototype_names interfaces) ∙ extended_scanned i 0 interfaces (λ k. ap (slice_get interfaces) (let e : 0 + k ≡ k = omega arith in e)))
+  looked_up i = within_same (length interfaces) i
 
 pub method_found : (unit : Unit) (prototypes : List (List (List ℕ))) (table : Table) → AreTables unit prototypes table → (i : ℕ) (name : List ℕ) → method_named unit table i name ≡ interface_lookup (interfaces_in unit.decls) i name
 method_found unit prototypes table t i name =
-    ap (λ ids. first_of (λ j. nat_eq j i) ids or_else first_of (extends (interfaces_in unit.decls) i) ids) (t.declarers name ∙ ap (λ ps. ids_named ps name) t.names) ∙ looked_up (interfaces_in unit.decls) name i
+    ap (λ ids. method_within (interfaces_in unit.decls) ids (length (interfaces_in unit.decls)) i) (t.declarers name ∙ ap (λ ps. ids_named ps name) t.names) ∙ looked_up (interfaces_in unit.decls) name i
+
+-- ---- the way upward, one interface after the other
+
+pub within_next : (interfaces : List (InterfaceDecl ℕ)) (ids : List PrototypeId) (k i : ℕ) → 0 < k
+    → method_within interfaces ids k i ≡ (first_of (λ j. nat_eq j i) ids or_else option_and_then (method_within interfaces ids (k - 1)) (first_with (has_one interfaces ids) (extended interfaces i)))
+within_next interfaces ids zero i h = absurd (omega arith)
+within_next interfaces ids (suc k) i h =
+    let e : suc k - 1 ≡ k = omega arith in
+    ap (λ n. first_of (λ j. nat_eq j i) ids or_else option_and_then (method_within interfaces ids n) (first_with (has_one interfaces ids) (extended interfaces i))) (sym e)

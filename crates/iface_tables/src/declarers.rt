@@ -2,7 +2,7 @@
 
 ghost use Rattle.std.specs.Prelude.{◌≡◌, ℕ, List, [], ◌∷◌, ◌++◌, nat_eq, false, IfOk, OnOk, if◌then◌else◌};
 ghost use Rattle.plc_text.specs.Words.{same};
-ghost use Rattle.st_rules.specs.Interfaces.{interfaces_in, extends};
+ghost use Rattle.st_rules.specs.Interfaces.{interfaces_in, first_with};
 ghost use Rattle.iface_tables.specs.Private.Declarers as declarers;
 
 use class_tables::ClassTables;
@@ -98,20 +98,31 @@ fn first_own(ids: &[PrototypeId], interface: u32) -> Option<PrototypeId>
     None
 }
 
-/// The first of the methods that stands in the interface or in one that it extends.
-fn first_extended(classes: &ClassTables, ids: &[PrototypeId], interface: u32) -> Option<PrototypeId>
-    ensures { result ≡ declarers.first_of (extends (interfaces_in classes.now.decls) interface) ids.now }
+/// Whether an interface is that of one of the methods, or extends it.
+fn has_one(classes: &ClassTables, ids: &[PrototypeId], interface: u32) -> bool
+    ensures { result ≡ declarers.has_one (interfaces_in classes.now.decls) ids.now interface }
 {
-    for place in 0..ids.len() {
-        let id = ids[place];
-        if classes.extends(interface, id.interface) {
-            return Some(id);
+    ids.iter()
+        .any(|id| classes.extends(interface, id.interface))
+}
+
+/// The first of the interfaces that has one of the methods.
+fn first_with(classes: &ClassTables, ids: &[PrototypeId], interfaces: &[u32]) -> Option<u32>
+    ensures { result ≡ first_with (declarers.has_one (interfaces_in classes.now.decls) ids.now) interfaces.now }
+{
+    for place in 0..interfaces.len() {
+        let interface = interfaces[place];
+        if has_one(classes, ids, interface) {
+            return Some(interface);
         }
     }
     None
 }
 
-/// The method that a name means in an interface. This goes over the interfaces that declare the name.
+/// The method that a name means in an interface: its own, or else what the name means in the first interface behind EXTENDS that has
+/// one. This goes upward, past at most as many interfaces as there are, and asks of those behind EXTENDS of each whether they extend one
+/// that declares the name.
+#[tactic(auto, using(crate::proofs::DeclarerLaws::within_next))]
 pub fn method_named(
     classes: &ClassTables,
     table: &Declarers,
@@ -121,8 +132,17 @@ pub fn method_named(
     ensures { result ≡ declarers.method_named classes.now table.now interface name.now }
 {
     let ids = methods_named(table, name);
-    match first_own(ids, interface) {
-        Some(id) => Some(id),
-        None => first_extended(classes, ids, interface),
+    let mut here = interface;
+    let mut left = classes.interface_count();
+    'upward: while left > 0 {
+        left -= 1;
+        if let Some(id) = first_own(ids, here) {
+            return Some(id);
+        }
+        match first_with(classes, ids, classes.extended(here)) {
+            Some(next) => here = next,
+            None => return None,
+        }
     }
+    None
 }

@@ -89,8 +89,8 @@ impl IfaceTables {
         )
     }
 
-    /// The method that a name means in an interface: its own, or else that of the first interface in the text that it extends and that
-    /// declares one.
+    /// The method that a name means in an interface: its own, or else what the name means in the first interface behind EXTENDS, in
+    /// written order, that has one.
     pub fn prototype_of(&self, interface: u32, name: &Text) -> Option<PrototypeId>
         ensures { result ≡ interfaces.interface_lookup (interfaces_in self.now.decls) interface name.now }
     {

@@ -363,6 +363,9 @@ module _ (p : CheckedProgram) (t : Tables) (is : AreTables p t) where
   abbrev extended_here : ℕ → ℕ → Bool
   extended_here i j = if nat_lt i (length p.interfaces) then (if nat_lt j (length p.interfaces) then reaches t.reach.items i j else false) else false
 
+  pub extended_found : (i : ℕ) → found.extended t i ≡ extended p.interfaces i
+  extended_found i = ap (λ lists. ahead_in lists i) is.extended ∙ lists-at p.interfaces p.interfaces i
+
   pub extends_found : (i j : ℕ) → found.extends t i j ≡ is_extended p.interfaces i j
   extends_found i j = ap (λ n. if nat_lt i n then (if nat_lt j n then reaches t.reach.items i j else false) else false) is.interfaces ∙ at (below i (length p.interfaces)) (below j (length p.interfaces))
     where
@@ -381,8 +384,8 @@ module _ (p : CheckedProgram) (classes : List (ClassDecl Note)) (interfaces : Li
   pub tables_made : classes ≡ p.classes → interfaces ≡ p.interfaces → programs ≡ p.programs → tables.functions ≡ length p.functions → tables.classes ≡ found.count p → tables.interfaces ≡ length interfaces
       → IsTableOf class_name (λ d. true) 0 tables.class_places classes → IsTableOf program_name (λ d. true) (length classes) tables.program_places programs → IsTableOf interface_name (λ d. true) 0 places interfaces
       → tables.bases.items ≡ map (base_by tables.class_places) classes → AreMemberTables tables.methods.items classes → tables.implemented.items ≡ map (implemented_by places) classes
-      → AreReached (map (extended_by places) interfaces) (length interfaces) tables.reach.items → AreTables p tables
-  tables_made c i q functions count interface_count class_places program_places interface_places bases methods implemented reach = record {
+      → tables.extended.items ≡ map (extended_by places) interfaces → AreReached tables.extended.items (length interfaces) tables.reach.items → AreTables p tables
+  tables_made c i q functions count interface_count class_places program_places interface_places bases methods implemented extended_by_places reach = record {
     functions = functions;
     classes = count;
     interfaces = interface_count ∙ ap length i;
@@ -392,6 +395,10 @@ module _ (p : CheckedProgram) (classes : List (ClassDecl Note)) (interfaces : Li
     bases = bases ∙ bases_are tables.class_places classes class_places ∙ ap (λ ds. bases_in ds ds) c;
     methods = subst (λ (ds : List (ClassDecl Note)). AreMemberTables tables.methods.items ds) c methods;
     implemented = implemented ∙ implemented_are places interfaces classes interface_places ∙ ap (λ ds. implemented_in ds classes) i ∙ ap (implemented_in p.interfaces) c;
+    extended = lists ∙ ap (λ ds. extended_in ds ds) i;
     reach = subst (λ (ds : List (InterfaceDecl Note)). AreReached (extended_in ds ds) (length ds) tables.reach.items) i
-        (subst (λ (lists : List (List ℕ)). AreReached lists (length interfaces) tables.reach.items) (extended_are places interfaces interface_places) reach);
+        (subst (λ (ls : List (List ℕ)). AreReached ls (length interfaces) tables.reach.items) lists reach);
   }
+    where
+      lists : tables.extended.items ≡ extended_in interfaces interfaces
+      lists = extended_by_places ∙ extended_are places interfaces interface_places

@@ -4,7 +4,7 @@ ghost use Rattle.std.specs.Prelude.{◌≡◌, IfOk};
 ghost use Rattle.program_tables.specs.Private.Tables.{AreTables};
 ghost use Rattle.program_tables.specs.Private.Found as found;
 
-use crate::bases::{bases_of, implemented};
+use crate::bases::{self, bases_of, implemented};
 use crate::chain::chain_of;
 use crate::climb::{implements, is_derived, leads, nearest_method};
 use crate::graph::reach;
@@ -33,6 +33,8 @@ pub struct Tables {
     pub bases: Vec<Option<u32>>,
     pub methods: Vec<Places>,
     pub implemented: Vec<Items<u32>>,
+    /// Behind EXTENDS of each interface.
+    pub extended: Vec<Items<u32>>,
     /// To which interfaces each interface leads.
     pub reach: Vec<Row>,
 }
@@ -60,7 +62,8 @@ pub fn tables_of(alloc: Global, program: &Program) -> Result<Tables, NoMemory>
     let bases = bases_of(alloc, &class_places, classes)?;
     let methods = method_places(alloc, classes)?;
     let implemented = implemented(alloc, &interface_places, classes)?;
-    let reach = reach(alloc, &interface_places, interfaces)?;
+    let extended = bases::extended(alloc, &interface_places, interfaces)?;
+    let reach = reach(alloc, &interface_places, interfaces, &extended)?;
     Ok(Tables {
         functions: program.functions.len(),
         classes: count,
@@ -70,6 +73,7 @@ pub fn tables_of(alloc: Global, program: &Program) -> Result<Tables, NoMemory>
         bases,
         methods,
         implemented,
+        extended,
         reach,
     })
 }
@@ -141,6 +145,16 @@ fn conforms_to(tables: &Tables, class: u32, interface: u32) -> bool
         class,
         interface,
     )
+}
+
+/// The interfaces behind EXTENDS of an interface.
+pub fn extended(tables: &Tables, interface: u32) -> &[u32]
+    ensures { result.now ≡ found.extended tables.now interface }
+{
+    match tables.extended.get(interface as usize) {
+        Some(ahead) => ahead.as_slice(),
+        None => &[],
+    }
 }
 
 pub fn extends(tables: &Tables, interface: u32, other: u32) -> bool

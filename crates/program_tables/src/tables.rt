@@ -1,6 +1,7 @@
 //! What a checked program calls, by numbers and names.
 
 ghost use Rattle.std.specs.Prelude.{◌≡◌, length, option_map, slice_get, IfOk};
+ghost use Rattle.st_rules.specs.Interfaces.{extended};
 ghost use Rattle.st_values.specs.Program as plain;
 ghost use Rattle.st_values.specs.View.{program_of};
 ghost use Rattle.program_tables.specs.Interfaces.{is_extended};
@@ -84,6 +85,13 @@ impl ProgramTables {
         ensures { result ≡ plain.conforms (program_of self.now) class kind.now }
     {
         parts::conforms(&self.tables, class, kind)
+    }
+
+    /// The interfaces behind EXTENDS of an interface, in written order, where they are found.
+    pub fn extended(&self, interface: u32) -> &[u32]
+        ensures { result.now ≡ extended self.now.interfaces interface }
+    {
+        parts::extended(&self.tables, interface)
     }
 
     /// Whether an interface of the program is another one of its interfaces or extends it, in any number of steps.

@@ -2,8 +2,8 @@
 
 ghost use Rattle.std.specs.Prelude.{◌≡◌, ℕ, List, [], ◌∷◌, ◌++◌, nat_eq, true, false, Some, None, MatchOption, IfOk, OnOk, if◌then◌else◌};
 ghost use Rattle.plc_text.specs.Words.{same};
+ghost use Rattle.st_rules.specs.Interfaces.{first_with};
 ghost use Rattle.st_values.specs.View.{signature_of};
-ghost use Rattle.program_tables.specs.Interfaces.{is_extended};
 ghost use Rattle.routine_tables.specs.Parameters.{parameters_of};
 ghost use Rattle.signature_tables.specs.Private.Declarers as declarers;
 
@@ -135,7 +135,7 @@ pub fn methods_named<'a>(table: &'a Declarers, name: &Text) -> &'a [Declared]
 }
 
 /// What the first of the methods that an interface declares itself may be given.
-pub fn first_own(methods: &[Declared], interface: u32) -> Option<&[Parameter]>
+fn first_own(methods: &[Declared], interface: u32) -> Option<&[Parameter]>
     ensures { MatchOption result (declarers.first_of (λ j. nat_eq j interface) (declarers.signed methods.now) ≡ None) (λ found. declarers.first_of (λ j. nat_eq j interface) (declarers.signed methods.now) ≡ Some (parameters_of found.now)) }
 {
     for place in 0..methods.len() {
@@ -147,18 +147,52 @@ pub fn first_own(methods: &[Declared], interface: u32) -> Option<&[Parameter]>
     None
 }
 
-/// What the first of the methods may be given that stands in an interface, or in one that it extends.
-pub fn first_extended<'a>(
-    tables: &ProgramTables,
-    methods: &'a [Declared],
-    interface: u32,
-) -> Option<&'a [Parameter]>
-    ensures { MatchOption result (declarers.first_of (is_extended tables.now.interfaces interface) (declarers.signed methods.now) ≡ None) (λ found. declarers.first_of (is_extended tables.now.interfaces interface) (declarers.signed methods.now) ≡ Some (parameters_of found.now)) }
+/// Whether an interface is that of one of the methods, or extends it.
+fn has_one(tables: &ProgramTables, methods: &[Declared], interface: u32) -> bool
+    ensures { result ≡ declarers.has_one tables.now.interfaces (declarers.signed methods.now) interface }
 {
     for place in 0..methods.len() {
         let method = &methods[place];
         if tables.extends(interface, method.interface) {
-            return Some(method.parameters.as_slice());
+            return true;
+        }
+    }
+    false
+}
+
+/// The first of the interfaces that has one of the methods.
+fn first_with(tables: &ProgramTables, methods: &[Declared], interfaces: &[u32]) -> Option<u32>
+    ensures { result ≡ first_with (declarers.has_one tables.now.interfaces (declarers.signed methods.now)) interfaces.now }
+{
+    for place in 0..interfaces.len() {
+        let interface = interfaces[place];
+        if has_one(tables, methods, interface) {
+            return Some(interface);
+        }
+    }
+    None
+}
+
+/// What the method may be given that is meant in an interface, past at most so many.
+#[tactic(auto, using(crate::proofs::DeclarerLaws::within_next))]
+pub fn given<'a>(
+    tables: &ProgramTables,
+    methods: &'a [Declared],
+    count: usize,
+    interface: u32,
+) -> Option<&'a [Parameter]>
+    ensures { MatchOption result (declarers.given_within tables.now.interfaces (declarers.signed methods.now) count interface ≡ None) (λ found. declarers.given_within tables.now.interfaces (declarers.signed methods.now) count interface ≡ Some (parameters_of found.now)) }
+{
+    let mut here = interface;
+    let mut left = count;
+    'upward: while left > 0 {
+        left -= 1;
+        if let Some(parameters) = first_own(methods, here) {
+            return Some(parameters);
+        }
+        match first_with(tables, methods, tables.extended(here)) {
+            Some(next) => here = next,
+            None => return None,
         }
     }
     None

@@ -6,7 +6,7 @@ ghost use Rattle.st_frame.specs.Use.{interface_parameters};
 ghost use Rattle.routine_tables.specs.Parameters.{parameters_of};
 ghost use Rattle.signature_tables.specs.Tables.{Declares};
 
-use crate::declarers::{Declarers, declarers, first_extended, first_own, methods_named};
+use crate::declarers::{Declarers, declarers, given, methods_named};
 use plc_text::{NoMemory, Text};
 use program_tables::ProgramTables;
 use routine_tables::Parameter;
@@ -16,6 +16,8 @@ use std::alloc::Global;
 /// The methods of a program's interfaces by name, with what each may be given.
 #[derive(Drop)]
 pub struct SignatureTables {
+    /// How many there are.
+    interfaces: usize,
     methods: Declarers,
 }
 
@@ -23,24 +25,26 @@ pub struct SignatureTables {
 pub fn signature_tables(alloc: Global, program: &Program) -> Result<SignatureTables, NoMemory>
     ensures { IfOk result (λ made. Declares program.now made) }
 {
-    let methods = declarers(alloc, program.interfaces.as_slice())?;
-    Ok(SignatureTables { methods })
+    let interfaces = program.interfaces.as_slice();
+    let methods = declarers(alloc, interfaces)?;
+    Ok(SignatureTables {
+        interfaces: interfaces.len(),
+        methods,
+    })
 }
 
 impl SignatureTables {
-    /// What the method may be given that a name means in an interface: its own, or else that of the first interface in the text that it
-    /// extends and that declares one. Nothing where there is none. This goes over the interfaces that declare the name.
+    /// What the method may be given that a name means in an interface: its own, or else what the name means in the first interface behind
+    /// EXTENDS, in written order, that has one. Nothing where there is none. This goes upward, and asks of those behind EXTENDS of each
+    /// interface whether they extend one that declares the name.
     pub fn parameters(&self, tables: &ProgramTables, interface: u32, name: &Text) -> &[Parameter]
         requires { Declares tables.now self.now }
         ensures { parameters_of result.now ≡ interface_parameters (slice_get (program_of tables.now).interfaces interface) name.now }
     {
         let methods = methods_named(&self.methods, name);
-        match first_own(methods, interface) {
+        match given(tables, methods, self.interfaces, interface) {
             Some(parameters) => parameters,
-            None => match first_extended(tables, methods, interface) {
-                Some(parameters) => parameters,
-                None => &[],
-            },
+            None => &[],
         }
     }
 }

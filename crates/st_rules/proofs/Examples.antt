@@ -119,6 +119,59 @@ from_above : interface_lookup interfaces 3 (codes "M") ≡ Some (prototype_id 0 
 unfolding interface_lookup extends interfaces interface name used
 from_above = refl
 
+-- C; B; A extends B and C, in which M stands twice; D extends C and B
+with_both : List (InterfaceDecl ℕ)
+with_both =
+    interface (codes "C") [] (codes "M" ∷ [])
+    ∷ interface (codes "B") [] (codes "M" ∷ [])
+    ∷ interface (codes "A") (codes "B" ∷ codes "C" ∷ []) []
+    ∷ interface (codes "D") (codes "C" ∷ codes "B" ∷ []) []
+    ∷ []
+
+first_written : interface_lookup with_both 2 (codes "M") ≡ Some (prototype_id 1 0)
+unfolding interface_lookup extends with_both interface name used
+first_written = refl
+
+first_of_other : interface_lookup with_both 3 (codes "M") ≡ Some (prototype_id 0 0)
+unfolding interface_lookup extends with_both interface name used
+first_of_other = refl
+
+-- D and E extend B and C, which extend A; C declares M again. In D it is that of B, which is that of A; in E that of C
+arms : List (InterfaceDecl ℕ)
+arms =
+    interface (codes "A") [] (codes "M" ∷ [])
+    ∷ interface (codes "B") (codes "A" ∷ []) []
+    ∷ interface (codes "C") (codes "A" ∷ []) (codes "M" ∷ [])
+    ∷ interface (codes "D") (codes "B" ∷ codes "C" ∷ []) []
+    ∷ interface (codes "E") (codes "C" ∷ codes "B" ∷ []) []
+    ∷ []
+
+first_arm : interface_lookup arms 3 (codes "M") ≡ Some (prototype_id 0 0)
+unfolding interface_lookup extends arms interface name used
+first_arm = refl
+
+other_arm : interface_lookup arms 4 (codes "M") ≡ Some (prototype_id 2 0)
+unfolding interface_lookup extends arms interface name used
+other_arm = refl
+
+-- A and B extend each other; C extends D and E, and D extends C: from C the first that has M leads back
+turning : List (InterfaceDecl ℕ)
+turning =
+    interface (codes "A") (codes "B" ∷ []) []
+    ∷ interface (codes "B") (codes "A" ∷ []) (codes "M" ∷ [])
+    ∷ interface (codes "C") (codes "D" ∷ codes "E" ∷ []) []
+    ∷ interface (codes "D") (codes "C" ∷ []) []
+    ∷ interface (codes "E") [] (codes "M" ∷ [])
+    ∷ []
+
+along_cycle : interface_lookup turning 0 (codes "M") ≡ Some (prototype_id 1 0)
+unfolding interface_lookup extends turning interface name used
+along_cycle = refl
+
+turned_round : interface_lookup turning 2 (codes "M") ≡ None
+unfolding interface_lookup extends turning interface name used
+turned_round = refl
+
 -- A implements L; B extends A
 implementing : List (ClassDecl ℕ)
 implementing =

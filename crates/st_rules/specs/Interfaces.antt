@@ -1,6 +1,6 @@
 -- Interfaces: what they extend and have, and which classes conform to them (IEC 61131-3:2013, 6.6.6). Interfaces are told by their
 -- numbers, from 0 in the order of the text.
-use Rattle.std.specs.Prelude.{ℕ, suc, Bool, false, List, [], ◌∷◌, map, length, Option, None, option_map, option_and_then, slice_get, filter_map, unwrap_or, if◌then◌else◌}
+use Rattle.std.specs.Prelude.{ℕ, zero, suc, Bool, false, ◌&&◌, List, [], ◌∷◌, map, length, Option, Some, None, is_some, option_map, option_and_then, slice_get, filter_map, unwrap_or, if◌then◌else◌}
 use Rattle.std.specs.List.{list_any}
 use Rattle.st_types.specs.declared.st_type.StType.{StType}
 use Rattle.st_types.specs.declared.st_type.StType.TheVariants as type
@@ -12,6 +12,7 @@ use Rattle.st_tree.specs.declared.unit.Decl.{Decl}
 use Rattle.st_tree.specs.declared.unit.Decl.TheVariants as declaration
 use Rattle.st_rules.specs.declared.ids.PrototypeId.{PrototypeId}
 use Rattle.st_rules.specs.Named.{first_place}
+use Rattle.st_rules.specs.Numbered.{any_numbered}
 use Rattle.st_rules.specs.Chains.{is_among, ◌or_else◌, leads_within}
 use Rattle.st_rules.specs.Classes.{chain}
 
@@ -65,15 +66,26 @@ prototype_id i m = record { interface = i; method = m }
 abbrev pub own_prototype : {A : Type 0} → List (InterfaceDecl A) → List ℕ → ℕ → Option PrototypeId
 own_prototype interfaces name i = option_map (prototype_id i) (option_and_then (λ interface. first_place name (prototype_names interface)) (slice_get interfaces i))
 
--- the method of that name of the first interface, from number j on, that the interface extends and that declares one
-abbrev pub extended_prototype : {A : Type 0} → List (InterfaceDecl A) → ℕ → List ℕ → ℕ → List (InterfaceDecl A) → Option PrototypeId
-extended_prototype interfaces i name j [] = None
-extended_prototype interfaces i name j (_ ∷ rest) = (if extends interfaces i j then own_prototype interfaces name j else None) or_else extended_prototype interfaces i name (suc j) rest
+abbrev pub declares : {A : Type 0} → List ℕ → InterfaceDecl A → Bool
+declares name interface = is_some (first_place name (prototype_names interface))
 
--- the method that a name means in an interface: its own, or else that of the first interface in the text that it extends and that
--- declares one
+-- whether an interface, or one that it extends, declares a method of that name
+abbrev pub has_prototype : {A : Type 0} → List (InterfaceDecl A) → List ℕ → ℕ → Bool
+has_prototype interfaces name i = any_numbered (λ j interface. extends interfaces i j && declares name interface) 0 interfaces
+
+abbrev pub first_with : (ℕ → Bool) → List ℕ → Option ℕ
+first_with test [] = None
+first_with test (i ∷ is) = if test i then Some i else first_with test is
+
+-- the method that a name means in an interface, past at most so many: its own, or else what the name means in the first interface
+-- behind EXTENDS, in written order, that has one
+abbrev pub prototype_within : {A : Type 0} → List (InterfaceDecl A) → List ℕ → ℕ → ℕ → Option PrototypeId
+prototype_within interfaces name zero i = None
+prototype_within interfaces name (suc n) i = own_prototype interfaces name i or_else option_and_then (prototype_within interfaces name n) (first_with (has_prototype interfaces name) (extended interfaces i))
+
+-- the method that a name means in an interface; a way up is no longer than there are interfaces, but on a cycle, where it ends so
 unfoldable pub interface_lookup : {A : Type 0} → List (InterfaceDecl A) → ℕ → List ℕ → Option PrototypeId
-interface_lookup interfaces i name = own_prototype interfaces name i or_else extended_prototype interfaces i name 0 interfaces
+interface_lookup interfaces i name = prototype_within interfaces name (length interfaces) i
 
 -- the declaration of a method of an interface
 abbrev pub prototype_at : {A : Type 0} → List (InterfaceDecl A) → PrototypeId → Option (Prototype A)

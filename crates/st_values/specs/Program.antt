@@ -67,7 +67,7 @@ pub record Signature : Type 0 where
   pub name : List ℕ
   pub parameters : List Parameter
 
--- an interface with its methods and those of the interfaces that it extends, the nearest of a name first
+-- an interface with the methods that names mean in it, its own and those of the interfaces that it extends
 pub record Interface : Type 0 where
   pub name : List ℕ
   pub methods : List Signature

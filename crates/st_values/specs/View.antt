@@ -1,5 +1,5 @@
 -- How the meaning sees a program of the code: what its sections, items and types declare, in the order of the text.
-use Rattle.std.specs.Prelude.{ℕ, suc, Bool, true, false, if◌then◌else◌, List, [], ◌∷◌, ◌++◌, reverse, length, map, filter, Option, Some, None, option_map, slice_get}
+use Rattle.std.specs.Prelude.{ℕ, suc, Bool, true, false, if◌then◌else◌, List, [], ◌∷◌, ◌++◌, reverse, length, map, filter, flat_map, filter_map, Option, Some, None, option_map, option_and_then, slice_get}
 use Rattle.std.specs.List.{range_with_len}
 use Rattle.st_types.specs.declared.st_type.StType.{StType}
 use Rattle.st_types.specs.declared.st_type.StType.TheVariants as type
@@ -35,7 +35,7 @@ use Rattle.st_tree.specs.Initial.{Initial, initial_of}
 use Rattle.st_tree.specs.Reads.{no_marks}
 use Rattle.st_tree.specs.Statement.{Statements, statements_of}
 use Rattle.st_rules.specs.Classes.{chain, methods_in}
-use Rattle.st_rules.specs.Interfaces.{conforms, extends}
+use Rattle.st_rules.specs.Interfaces.{conforms, prototype_names, prototype_at, interface_lookup}
 use Rattle.st_rules.specs.Modifiers.{is_constant}
 use Rattle.st_values.specs.Program.{Variable, to_local, to_variable, Parameter, Routine, Sort, a_class, a_block, a_program, Class, Signature, Interface, TypeBody, an_alias, an_enumeration, a_structure, TypeEntry, Region, Program}
 
@@ -198,15 +198,14 @@ programs_from c (d ∷ ds) =
 abbrev pub signature_of : Prototype Note → Signature
 signature_of m = record { name = m.name.text; parameters = local_parameters (length (result_of m.name.text m.result)) (those is_parameter (variables_in m.sections)) }
 
--- of the interfaces from number j on that interface i extends
-abbrev pub extended_signatures : List (InterfaceDecl Note) → ℕ → ℕ → List (InterfaceDecl Note) → List Signature
-extended_signatures interfaces i j [] = []
-extended_signatures interfaces i j (d ∷ ds) = (if extends interfaces i j then map signature_of d.methods else []) ++ extended_signatures interfaces i (suc j) ds
+-- the method that a name means in an interface
+abbrev pub meant_in : List (InterfaceDecl Note) → ℕ → List ℕ → Option Signature
+meant_in interfaces i name = option_map signature_of (option_and_then (prototype_at interfaces) (interface_lookup interfaces i name))
 
 abbrev pub interfaces_from : List (InterfaceDecl Note) → ℕ → List (InterfaceDecl Note) → List Interface
 interfaces_from interfaces i [] = []
 interfaces_from interfaces i (d ∷ ds) =
-    record { name = d.name.text; methods = map signature_of d.methods ++ extended_signatures interfaces i 0 interfaces } ∷ interfaces_from interfaces (suc i) ds
+    record { name = d.name.text; methods = filter_map (meant_in interfaces i) (flat_map prototype_names interfaces) } ∷ interfaces_from interfaces (suc i) ds
 
 -- ---- the program
 

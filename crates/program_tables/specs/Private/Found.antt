@@ -4,7 +4,7 @@ use Rattle.st_tree.specs.declared.program.Program.{Program}
 use Rattle.st_types.specs.declared.st_type.StType.{StType}
 use Rattle.st_types.specs.declared.st_type.StType.TheVariants as type
 use Rattle.st_rules.specs.Chains.{◌or_else◌, climb}
-use Rattle.graph_reach.specs.Reach.{reaches}
+use Rattle.graph_reach.specs.Reach.{ahead_in, reaches}
 use Rattle.program_tables.specs.declared.parts.Tables.{Tables}
 use Rattle.program_tables.specs.declared.routine.RoutineId.{RoutineId}
 use Rattle.program_tables.specs.declared.routine.RoutineId.TheVariants as id
@@ -36,6 +36,9 @@ is_derived t c d = if nat_lt c t.classes then any_upward (nat_eq d) (base_in t.b
 abbrev pub conforms_to : Tables → ℕ → ℕ → Bool
 conforms_to t c i =
     if nat_lt i t.interfaces then any_upward (implements_itself t.implemented.items t.reach.items i) (base_in t.bases.items) (length t.bases.items + 1) c else false
+
+abbrev pub extended : Tables → ℕ → List ℕ
+extended t i = ahead_in t.extended.items i
 
 abbrev pub extends : Tables → ℕ → ℕ → Bool
 extends t i j = if nat_lt i t.interfaces then (if nat_lt j t.interfaces then reaches t.reach.items i j else false) else false

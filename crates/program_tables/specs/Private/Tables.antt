@@ -32,4 +32,5 @@ pub record AreTables (p : Program) (t : Tables) : Type 0 where
   pub bases : t.bases.items ≡ bases_in p.classes p.classes
   pub methods : AreMemberTables t.methods.items p.classes
   pub implemented : t.implemented.items ≡ implemented_in p.interfaces p.classes
+  pub extended : t.extended.items ≡ extended_in p.interfaces p.interfaces
   pub reach : AreReached (extended_in p.interfaces p.interfaces) (length p.interfaces) t.reach.items

@@ -1,5 +1,6 @@
 -- The methods of interfaces by name.
-use Rattle.std.specs.Prelude.{ℕ, suc, nat_eq, Bool, if◌then◌else◌, List, [], ◌∷◌, ◌++◌, map, flat_map, Option, Some, None, unwrap_or}
+use Rattle.std.specs.Prelude.{ℕ, zero, suc, nat_eq, Bool, if◌then◌else◌, List, [], ◌∷◌, ◌++◌, map, flat_map, Option, Some, None, option_and_then, unwrap_or}
+use Rattle.std.specs.List.{list_any}
 use Rattle.std.specs.Cmp.Lexicographic.{pointwise}
 use Rattle.std.specs.HashMap.{HashMap, get}
 use Rattle.std.specs.declared.hash.FoldHasher.{FoldHasher}
@@ -8,8 +9,11 @@ use Rattle.plc_text.specs.Words.{same}
 use Rattle.st_tree.specs.declared.declaration.InterfaceDecl.{InterfaceDecl}
 use Rattle.st_tree.specs.declared.declaration.Prototype.{Prototype}
 use Rattle.st_tree.specs.declared.program.Note.{Note}
+use Rattle.st_rules.specs.Chains.{◌or_else◌}
+use Rattle.st_rules.specs.Interfaces.{extended, first_with}
 use Rattle.st_values.specs.Program.{Parameter}
 use Rattle.st_values.specs.View.{signature_of}
+use Rattle.program_tables.specs.Interfaces.{is_extended}
 use Rattle.routine_tables.specs.Parameters.{parameters_of}
 use Rattle.signature_tables.specs.declared.declarers.Declared.{Declared}
 
@@ -48,3 +52,12 @@ named_from name i (d ∷ ds) = all_named name i d.methods ++ named_from name (su
 abbrev pub first_of : (ℕ → Bool) → List Signed → Option (List Parameter)
 first_of test [] = None
 first_of test (m ∷ ms) = if test m.0 then Some m.1 else first_of test ms
+
+-- whether an interface is that of one of the methods, or extends it
+abbrev pub has_one : List (InterfaceDecl Note) → List Signed → ℕ → Bool
+has_one interfaces ms i = list_any (λ m. is_extended interfaces i m.0) ms
+
+-- what the method may be given that is meant, past at most so many interfaces
+abbrev pub given_within : List (InterfaceDecl Note) → List Signed → ℕ → ℕ → Option (List Parameter)
+given_within interfaces ms zero i = None
+given_within interfaces ms (suc n) i = first_of (λ j. nat_eq j i) ms or_else option_and_then (given_within interfaces ms n) (first_with (has_one interfaces ms) (extended interfaces i))

@@ -6,4 +6,4 @@ use Rattle.program_tables.proofs.graph.reach.Goals as goal
 
 pub find_reached-requires-clause-edges : goal.find_reached-requires-clause-edges
 find_reached-requires-clause-edges c =
-    subst (λ (lists : List (List ℕ)). AreEdges lists) (sym (c.deref.ensures.value ∙ c.in_ok-lists.ensures ∙ extended_are c.args.places.now c.args.interfaces.now c.requires)) (are_edges c.args.interfaces.now)
+    subst (λ (lists : List (List ℕ)). AreEdges lists) (sym (c.requires.extended ∙ extended_are c.args.places.now c.args.interfaces.now c.requires.table)) (are_edges c.args.interfaces.now)
