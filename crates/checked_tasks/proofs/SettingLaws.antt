@@ -90,12 +90,12 @@ pick_fits false n rest h k = k
 all_fit : (decls : List (Decl ℕ)) (test : List ℕ → Bool) (before : List (List ℕ)) (xs : List Setting) → settings_faults before xs ≡ [] → fits_32_bits (setting_value decls test xs) ≡ true
 all_fit decls test before [] h = refl
 all_fit decls test before (x ∷ xs) h =
-    let first = none_first (bad_setting before x ++ setting_past_its_limit x.name.line x.value) (settings_faults (before ++ x.name.text ∷ []) xs) h in
-    let rest = none_second (bad_setting before x ++ setting_past_its_limit x.name.line x.value) (settings_faults (before ++ x.name.text ∷ []) xs) h in
-    let bad = none_first (bad_setting before x) (setting_past_its_limit x.name.line x.value) first in
-    let past = none_second (bad_setting before x) (setting_past_its_limit x.name.line x.value) first in
+    let first = none_first (bad_setting before x ++ setting_past_its_limit x.line x.value) (settings_faults (before ++ x.name.text ∷ []) xs) h in
+    let rest = none_second (bad_setting before x ++ setting_past_its_limit x.line x.value) (settings_faults (before ++ x.name.text ∷ []) xs) h in
+    let bad = none_first (bad_setting before x) (setting_past_its_limit x.line x.value) first in
+    let past = none_second (bad_setting before x) (setting_past_its_limit x.line x.value) first in
     let suits = passes (suits_setting x.name.text x.value) ((neither (not (suits_setting x.name.text x.value)) (is_named x.name.text before) (unbroken _ E15 x.name.line bad)).0) in
-    pick_fits (test x.name.text) (number_in x.value) (setting_value decls test xs) (value_fits x.name.text x.name.line x.value suits past) (all_fit decls test (before ++ x.name.text ∷ []) xs rest)
+    pick_fits (test x.name.text) (number_in x.value) (setting_value decls test xs) (value_fits x.name.text x.line x.value suits past) (all_fit decls test (before ++ x.name.text ∷ []) xs rest)
 
 pub settings_fit : (decls : List (Decl ℕ)) (t : TaskSpec) → settings_faults [] t.settings ≡ [] → values_fit decls t ≡ true
 settings_fit decls t h = and-both _ _ (all_fit decls is_interval [] t.settings h) (all_fit decls is_priority [] t.settings h)

@@ -14,13 +14,13 @@ use Rattle.name_spaces.specs.Held.{Holds}
 use Rattle.config_rules.specs.Private.Names.{setting_names}
 
 pub setting_next : (found bad past : Option (Code × ℕ)) (b : Bool) (before : List (List ℕ)) (x : Setting) (rest : List Setting) → b ≡ (not (suits_setting x.name.text x.value) || is_named x.name.text before)
-    → bad ≡ least (when b E15 x.name.line) → past ≡ least (setting_past_its_limit x.name.line x.value)
+    → bad ≡ least (when b E15 x.name.line) → past ≡ least (setting_past_its_limit x.line x.value)
     → earlier (earlier found (earlier bad past)) (least (settings_faults (before ++ x.name.text ∷ []) rest)) ≡ earlier found (least (settings_faults before (x ∷ rest)))
 setting_next found bad past b before x rest e h k =
     let D = least (settings_faults (before ++ x.name.text ∷ []) rest) in
     sym (earlier-assoc found (earlier bad past) D)
-    ∙ ap (λ y. earlier found (earlier y D)) (ap (λ y. earlier y past) (h ∙ ap (λ b. least (when b E15 x.name.line)) e) ∙ ap (earlier (least (bad_setting before x))) k ∙ sym (least-append (bad_setting before x) (setting_past_its_limit x.name.line x.value)))
-    ∙ ap (earlier found) (sym (least-append (bad_setting before x ++ setting_past_its_limit x.name.line x.value) (settings_faults (before ++ x.name.text ∷ []) rest)))
+    ∙ ap (λ y. earlier found (earlier y D)) (ap (λ y. earlier y past) (h ∙ ap (λ b. least (when b E15 x.name.line)) e) ∙ ap (earlier (least (bad_setting before x))) k ∙ sym (least-append (bad_setting before x) (setting_past_its_limit x.line x.value)))
+    ∙ ap (earlier found) (sym (least-append (bad_setting before x ++ setting_past_its_limit x.line x.value) (settings_faults (before ++ x.name.text ∷ []) rest)))
 
 -- so many settings were looked at
 pub record SettingsTo (held : List (List ℕ)) (found : Option (Code × ℕ)) (xs : List Setting) (i : ℕ) : Type 0 where

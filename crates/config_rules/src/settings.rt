@@ -81,7 +81,7 @@ fn setting_fault(
     let again = held.hold(alloc, &x.name.text)?;
     let suits = suits_setting(&x.name.text, &x.value);
     let bad = when(is_bad(suits, again), Code::E15, x.name.line);
-    let past = past_its_limit(x.name.line, &x.value);
+    let past = past_its_limit(x.line, &x.value);
     Ok(earlier(found, earlier(bad, past)))
 }
 

@@ -87,7 +87,7 @@ settings_faults_usual : (before : List (List ℕ)) (x : List Setting) → Usual 
 settings_faults_usual before [] = none
 settings_faults_usual before (x ∷ xs) =
     if_broken _ E15 _ refl
-    also setting_past_its_limit_usual x.name.line x.value
+    also setting_past_its_limit_usual x.line x.value
     also settings_faults_usual (before ++ x.name.text ∷ []) xs
 
 task_faults_usual : (instances : List InstanceSpec) (before : ℕ) (t : TaskSpec) → Usual (task_faults instances before t)

@@ -27,7 +27,7 @@ use st_tree::{Argument, Expr, Note, Root, SectionSort, Selector, Target};
 use st_types::StType;
 use std::alloc::Global;
 
-/// What an argument is asked for.
+/// What an argument is asked for: for a type that cannot be told where it is for no parameter.
 #[tactic(auto, unfolding(st_rules::specs::Calls::asked_by))]
 pub fn asked_for(alloc: Global, m: Option<&Slot>) -> Result<Asked, NoMemory>
     ensures { IfOk result (λ a. a ≡ calls.asked_by (lent m.entry)) }
@@ -37,7 +37,7 @@ pub fn asked_for(alloc: Global, m: Option<&Slot>) -> Result<Asked, NoMemory>
             let t = again(alloc, &m.kind)?;
             Ok(asked_of(t))
         }
-        None => Ok(Asked::Anything),
+        None => Ok(Asked::Untold),
     }
 }
 

@@ -65,7 +65,7 @@ use Rattle.st_parser_stmt.proofs.Fronts.{of_body as body-front, of_initial as in
 use Rattle.st_parser_decl.specs.Private.Form.{Form, one, one_of, both, option}
 use Rattle.st_parser_decl.specs.Private.Rules as w
 use Rattle.st_parser_decl.proofs.Takes.{perhaps, either_of}
-use Rattle.st_parser_decl.proofs.FormOf.{FormOf, of_map, of_sign, of_text, of_one_of, of_optional, of_both, of_perhaps, of_either, of_each, more, first_of, of_list, Headed, headed_one, headed_one_of, headed_both, of_at, of_marked, of_inside}
+use Rattle.st_parser_decl.proofs.FormOf.{FormOf, of_map, of_sign, of_text, of_one_of, of_optional, of_both, of_perhaps, of_either, of_each, more, first_of, of_list, Headed, headed_one, headed_one_of, headed_both, headed_either, of_at, of_marked, of_inside}
 
 -- where a phrase is written in the same way
 abbrev same_phrase : {X : Type 0} (P Q : X → Phrase) → Type 0
@@ -748,10 +748,15 @@ of_setting_value = of_map (either_of (λ n. spelled x.Int n) (λ n. spelled x.Du
     back (setting_is.Int n) ts rest h = h
     back (setting_is.Time n) ts rest h = h
 
+setting_value_headed : Headed w.setting_value
+unfolding w.setting_value
+setting_value_headed = headed_either _ _ (headed_one x.Int) (headed_one x.Duration)
+
 of_setting : FormOf w.setting Setting d.setting
 unfolding w.setting
-of_setting = of_map _ d.setting (λ z. record { name = z.0; value = z.1.1 }) (λ s. (s.name, (tt, s.value))) (λ s ts rest h. refl) (λ z ts rest h. h) (λ s ts rest h. h)
-    (of_both _ _ of_name (of_both _ _ (of_sign x.Assign) of_setting_value))
+of_setting =
+    of_map _ d.setting (λ z. record { name = z.0; line = z.1.1.0; value = z.1.1.1 }) (λ s. (s.name, (tt, (s.line, s.value)))) (λ s ts rest h. refl) (λ z ts rest h. h) (λ s ts rest h. h)
+    (of_both _ _ of_name (of_both _ _ (of_sign x.Assign) (of_at _ setting_value_headed of_setting_value)))
 
 pub to-more_settings : same_phrase (more d.setting) d.more_settings
 to-more_settings [] ts rest h = h

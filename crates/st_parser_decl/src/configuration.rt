@@ -50,8 +50,9 @@ fn setting(alloc: Global, tokens: &mut Cursor<'_, '_>) -> Result<Setting, Stop>
 {
     let name = name(alloc, tokens)?;
     sign(tokens, Terminal::Assign)?;
+    let line = tokens.line();
     let value = setting_value(alloc, tokens)?;
-    Ok(Setting { name, value })
+    Ok(Setting { name, line, value })
 }
 
 /// Settings with commas between them.

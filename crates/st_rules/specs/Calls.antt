@@ -22,7 +22,7 @@ use Rattle.st_rules.specs.declared.modifiers.Access.TheVariants.{Public}
 use Rattle.st_rules.specs.declared.names.DeclaredVariable.{DeclaredVariable}
 use Rattle.st_rules.specs.declared.names.DeclaredRoutine.{DeclaredRoutine}
 use Rattle.st_rules.specs.declared.asked.Asked.{Asked}
-use Rattle.st_rules.specs.declared.asked.Asked.TheVariants.{Anything, Wanted}
+use Rattle.st_rules.specs.declared.asked.Asked.TheVariants.{Wanted, Untold}
 use Rattle.st_rules.specs.Faults.{Faults, at, when}
 use Rattle.st_rules.specs.Types.{same_kind}
 use Rattle.st_rules.specs.Signatures.{is_parameter_sort}
@@ -184,9 +184,9 @@ abbrev pub later_matches : List Matched → List Matched
 later_matches [] = []
 later_matches (m ∷ ms) = ms
 
--- what an argument is asked for
+-- what an argument is asked for; one that is for no parameter, as those of a call of what cannot be told, for a type that cannot be told
 unfoldable pub asked_by : Matched → Asked
-asked_by None = Anything
+asked_by None = Untold
 asked_by (Some m) = asked_of m.1.kind
 
 abbrev pub binds : Matched → Bool

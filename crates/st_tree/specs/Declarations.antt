@@ -232,7 +232,7 @@ setting_value (settings.Time text) = spelled x.Duration text
 
 -- set = name ":=" ( int | time )
 abbrev pub setting : Setting → Phrase
-setting s = name s.name ⋆ sign x.Assign ⋆ setting_value s.value
+setting s = name s.name ⋆ sign x.Assign ⋆ at s.line (setting_value s.value)
 
 abbrev pub more_settings : List Setting → Phrase
 more_settings [] = nothing

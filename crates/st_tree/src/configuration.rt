@@ -11,9 +11,11 @@ pub enum SettingValue {
     Time(Text),
 }
 
+/// `name := value`, with the line of the value.
 #[derive(Debug, Drop, PartialEq, Eq)]
 pub struct Setting {
     pub name: Name,
+    pub line: u32,
     pub value: SettingValue,
 }
 

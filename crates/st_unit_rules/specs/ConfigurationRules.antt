@@ -44,7 +44,7 @@ setting_past_its_limit line (value.Time text) = time_past_32_bits line text
 
 abbrev pub settings_faults : List (List ℕ) → List Setting → Faults
 settings_faults before [] = []
-settings_faults before (x ∷ xs) = bad_setting before x ++ setting_past_its_limit x.name.line x.value ++ settings_faults (before ++ x.name.text ∷ []) xs
+settings_faults before (x ∷ xs) = bad_setting before x ++ setting_past_its_limit x.line x.value ++ settings_faults (before ++ x.name.text ∷ []) xs
 
 -- ---- tasks and instances
 
