@@ -2,7 +2,9 @@
 
 use plc_series::Series;
 use plc_text::{NoMemory, Text};
-use run_state::{Frame, RunState, Slot, Spot, load, local_spot, pop, push, put, roll_back, spend};
+use run_state::{
+    Frame, Log, RunState, Slot, Spot, load, local_spot, pop, push, put, roll_back, spend,
+};
 use st_tree::{Path, Steps};
 use std::alloc::Global;
 use std::test::Fail;
@@ -24,7 +26,7 @@ fn begun(alloc: Global, ticks: u32) -> Result<RunState, NoMemory> {
         frames: Series::new(alloc),
         ticks,
         moment: 0,
-        undo: Series::new(alloc),
+        undo: Log::new(alloc),
     })
 }
 
@@ -58,13 +60,17 @@ fn is_put(alloc: Global, m: &mut RunState, spot: &Spot, n: i128) -> bool {
 fn writes_are_taken_back(rt: HostRuntime) -> Result<(), Fail> {
     let mut m = begun(rt.alloc(), 3)?;
     let spot = level(rt.alloc());
-    for n in [6, 7, 8] {
-        assert!(rt; is_put(rt.alloc(), &mut m, &spot, n));
-        assert!(rt; number_at(rt.alloc(), &m, &spot) == n);
+    // more writes than are remembered one by one
+    for _round in 0..100 {
+        for n in [6, 7, 8] {
+            assert!(rt; is_put(rt.alloc(), &mut m, &spot, n));
+            assert!(rt; number_at(rt.alloc(), &m, &spot) == n);
+        }
     }
+    assert!(rt; m.undo.whole.is_some());
     roll_back(&mut m);
     assert!(rt; number_at(rt.alloc(), &m, &spot) == 5);
-    assert!(rt; m.undo.is_empty());
+    assert!(rt; m.undo.replaced.is_empty() && m.undo.whole.is_none());
     Ok(())
 }
 

@@ -2,7 +2,7 @@
 
 use plc_series::Series;
 use plc_text::NoMemory;
-use run_state::RunState;
+use run_state::{Log, RunState};
 use run_steps::{index_in, is_decided, operate};
 use st_tree::Operator;
 use st_types::{Boxed, Elem, StType};
@@ -16,7 +16,7 @@ fn idle(alloc: Global) -> RunState {
         frames: Series::new(alloc),
         ticks: 0,
         moment: 0,
-        undo: Series::new(alloc),
+        undo: Log::new(alloc),
     }
 }
 
