@@ -1,6 +1,6 @@
 -- Regions and locals, read and written, and writes that are taken back.
 use Rattle.std.proofs.Common.{◌≡◌, ℕ, Bool, true, false, List, [], ◌∷◌, ◌++◌, Option, Some, None, Result, Ok, Err, refl, sym, ap, ◌∙◌}
-use Rattle.std.specs.Prelude.{slice_get, slice_set, map, option_map}
+use Rattle.std.specs.Prelude.{slice_get, slice_set, map, option_map, is_some, OnOk}
 use Rattle.std.proofs.lemmas.List.{map-set}
 use Rattle.st_tree.specs.declared.path.Step.{Step}
 use Rattle.st_tree.specs.declared.path.Path.{Path}
@@ -112,8 +112,17 @@ kept whole us us' q q' old s e p =
     ap (or_whole whole) (ap (λ us. unwind us s) e ∙ unwind-push us (record { path = q'; old = old }) s ∙ ap (λ q. unwind us (undone (record { path = q; old = old }) s)) p)
 
 -- where the store is known as a whole, nothing is to be kept
-pub known : (whole : Option (List Member)) (ms : List Member) (us : List Undo) (s t : Store) → whole ≡ Some ms → or_whole whole (unwind us s) ≡ or_whole whole (unwind us t)
-known whole ms us s t e = ap (λ o. or_whole o (unwind us s)) e ∙ sym (ap (λ o. or_whole o (unwind us t)) e)
+pub known : (whole : Option (List Member)) (us : List Undo) (s t : Store) → is_some whole ≡ true → or_whole whole (unwind us s) ≡ or_whole whole (unwind us t)
+known None us s t e = absurd cc
+known (Some ms) us s t e = refl
+
+pub not_known : (whole : Option (List Member)) → is_some whole ≡ false → whole ≡ None
+not_known None e = refl
+not_known (Some ms) e = absurd cc
+
+pub ok_behind : {T E : Type 0} (r : Result T E) (a b c : Store) → OnOk r (a ≡ b) → b ≡ c → OnOk r (a ≡ c)
+ok_behind (Ok x) a b c h e = h ∙ e
+ok_behind (Err x) a b c h e = h
 
 -- a copy from which all is taken back is the store as a whole
 pub shortened : (whole : Option (List Member)) (us : List Undo) (first copy store : List Member) → whole ≡ None → copy ≡ store → members_of first ≡ unwind us (members_of copy) → members_of first ≡ or_whole whole (unwind us (members_of store))
