@@ -1,3 +1,4 @@
+pub mod GivenLaws
 pub mod LevelLaws
 pub mod ListLaws
 pub mod StoreLaws

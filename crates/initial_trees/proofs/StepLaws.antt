@@ -1,14 +1,15 @@
 -- What the steps of the walk find.
-use Rattle.std.proofs.Common.{◌≡◌, ℕ, ℤ, Bool, true, false, if◌then◌else◌, List, take, Option, Some, None, sym, ap, ap₂, ◌∙◌, arith}
+use Rattle.std.proofs.Common.{◌≡◌, ◌<◌, ℕ, zero, suc, ℤ, Bool, true, false, if◌then◌else◌, List, take, Option, Some, None, refl, sym, ap, ap₂, ◌∙◌, arith}
 use Rattle.std.specs.Borrow.{Bor}
 use Rattle.std.specs.Prelude.{option_map, slice_get}
 use Rattle.plc_text.specs.declared.text.Text.{Text}
 use Rattle.st_types.specs.declared.st_type.StType.{StType}
 use Rattle.st_tree.specs.declared.program.Note.{Note}
 use Rattle.st_tree.specs.Initial.{Initial, FieldInits}
-use Rattle.st_values.specs.Initial.{number_given, list_given, fields_given}
+use Rattle.st_values.specs.Initial.{number_given, list_given, fields_given, init}
 use Rattle.st_values.specs.Program.{Class, Program, class_at, class_variables}
-use Rattle.st_values.specs.Value.{Value, number, reference, array, structure, instance, Values, Members, ◌>>=◌}
+use Rattle.st_values.specs.Shape.{Shape, shape_within}
+use Rattle.st_values.specs.Value.{Value, number, reference, array, structure, instance, Values, no_values, value_then, Members, ◌>>=◌}
 use Rattle.st_initial.specs.declared.members.Members as tables
 use Rattle.st_initial.specs.declared.variables.Variable as held
 use Rattle.st_initial.specs.Members.{items_at, list_at}
@@ -40,11 +41,29 @@ nothing_found o v b h f = sym (h ∙ ap (λ b. if b then v else None) f)
 
 -- ---- arrays
 
-pub array_found : (p : Program) (n : ℕ) (t : StType) (i : Option (Initial Note)) (o : Option CodeValue) (x : CodeValue) (end count : ℕ) (is : List (Initial Note)) (vs : Option Values) → option_map value_of o ≡ value_within p n t None → o ≡ Some x → end ≡ count
-    → is ≡ take end (list_given i) → vs ≡ elements_within p n t is 0 end → vs ≡ array_within p n t count i
-array_found p n t i o x end count is vs ov ox e g h =
-    h ∙ ap (λ is. elements_within p n t is 0 end) g ∙ cut_given p n t (list_given i) end 0 end (omega arith) ∙ ap (elements_within p n t (list_given i) 0) e
-    ∙ sym (ap (λ o. o >>= λ x. elements_within p n t (list_given i) 0 count) (sym ov ∙ ap (option_map value_of) ox))
+-- one without elements has a value where their type has one
+pub none_needed : (p : Program) (n : ℕ) (t : StType) (i : Option (Initial Note)) (o : Option CodeValue) (x : CodeValue) (end count : ℕ) → option_map value_of o ≡ value_within p n t None → o ≡ Some x → end ≡ count → end ≡ 0
+    → Some no_values ≡ array_within p n t count i
+none_needed p n t i o x end count ov ox e z =
+    let none : 0 ≡ count = sym z ∙ e in
+    sym (ap (λ o. o >>= λ x. Some no_values) (sym ov ∙ ap (option_map value_of) ox)) ∙ ap (λ count. array_within p n t count i) none
+
+pub none_missing : (p : Program) (n : ℕ) (t : StType) (i : Option (Initial Note)) (o : Option CodeValue) (count : ℕ) → option_map value_of o ≡ value_within p n t None → o ≡ None → None ≡ array_within p n t count i
+none_missing p n t i o count ov on = sym (ap (λ o. o >>= λ x. elements_within p n t (list_given i) 0 count) (sym ov ∙ ap (option_map value_of) on))
+
+-- whether a type has a value does not hang on what is given, so that the first element tells it
+first_tells : (p : Program) (n : ℕ) (t : StType) (i : Option (Initial Note)) (count : ℕ) → 0 < count → array_within p n t count i ≡ elements_within p n t (list_given i) 0 count
+first_tells p n t i zero l = absurd (omega arith)
+first_tells p n t i (suc m) l = by (shape_within p n t) (elements_within p n t (list_given i) 1 m) (slice_get (list_given i) 0)
+  where
+    by : (o : Option Shape) (rest : Option Values) (first : Option (Initial Note))
+        → (option_map (λ sh. init sh None) o >>= λ x. option_map (λ sh. init sh first) o >>= λ x. rest >>= λ rest. Some (value_then x rest)) ≡ (option_map (λ sh. init sh first) o >>= λ x. rest >>= λ rest. Some (value_then x rest))
+    by None rest first = refl
+    by (Some sh) rest first = refl
+
+pub array_found : (p : Program) (n : ℕ) (t : StType) (i : Option (Initial Note)) (end count : ℕ) (is : List (Initial Note)) (vs : Option Values) → end ≡ count → 0 < end → is ≡ take end (list_given i) → vs ≡ elements_within p n t is 0 end → vs ≡ array_within p n t count i
+array_found p n t i end count is vs e l g h =
+    h ∙ ap (λ is. elements_within p n t is 0 end) g ∙ cut_given p n t (list_given i) end 0 end (omega arith) ∙ sym (first_tells p n t i end l) ∙ ap (λ count. array_within p n t count i) e
 
 -- ---- structures and instances
 

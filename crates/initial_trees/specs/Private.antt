@@ -1,3 +1,4 @@
 -- The words of private contracts.
+pub mod Given
 pub mod Kinds
 pub mod Trees

@@ -1,6 +1,7 @@
 //! The values with which the variables and regions of a checked program begin, as trees.
 #![tactic(auto)]
 
+mod given;
 mod kinds;
 mod store;
 mod trees;

@@ -11,13 +11,15 @@ ghost use Rattle.st_initial.specs.Members as tables;
 ghost use Rattle.st_initial.specs.Variables.{variable_of, variables_of};
 ghost use Rattle.st_values.specs.Value.{array, member_then, no_members, no_values, number, reference, value_then};
 ghost use Rattle.value_trees.specs.Value.{value_of, values_of, members_of};
+ghost use Rattle.initial_trees.specs.Private.Given.{IsIndex};
 ghost use Rattle.initial_trees.specs.Private.Trees as trees;
 ghost use Rattle.initial_trees.specs.Private.Trees.{given_by, members_behind, values_behind};
 
+use crate::given::{Places, given_named, index_of};
 use crate::kinds::{class_name, has_interface, is_enumeration, structure_name};
 use plc_series::Series;
 use plc_text::{Items, NoMemory, Text};
-use st_initial::{Members, Variable, elements_given, fields_given, given_for, number_given};
+use st_initial::{Members, Variable, elements_given, fields_given, number_given};
 use st_tree::{FieldInit, Init, Note, Program, RegionDecl};
 use st_types::StType;
 use std::alloc::Global;
@@ -71,10 +73,15 @@ fn has_class(program: &Program, c: u32) -> bool
 }
 
 /// What is given to a variable, else its own value.
-fn given_to<'p>(variable: &Variable<'p>, fields: &'p [FieldInit<Note>]) -> Option<&'p Init<Note>>
-    ensures { given_by result ≡ trees.given_to (variable_of variable.now) (fields_of fields.now) }
+fn given_to<'p>(
+    variable: &Variable<'p>,
+    index: &Option<Places>,
+    inits: &'p [FieldInit<Note>],
+) -> Option<&'p Init<Note>>
+    requires { IsIndex index.now inits.now }
+    ensures { given_by result ≡ trees.given_to (variable_of variable.now) (fields_of inits.now) }
 {
-    match given_for(variable.name, fields) {
+    match given_named(index, inits, variable.name) {
         Some(init) => Some(init),
         None => variable.initial,
     }
@@ -183,9 +190,12 @@ fn array_within(
     let Some(end) = count(low, high) else {
         return Err(NoMemory);
     };
-    let Some(_) = value_within(alloc, program, members, depth, of, None)? else {
-        return Ok(None);
-    };
+    if end == 0 {
+        return match value_within(alloc, program, members, depth, of, None)? {
+            Some(_) => Ok(Some(Series::new(alloc))),
+            None => Ok(None),
+        };
+    }
     let givens = elements_given(alloc, given, end)?;
     let elements = elements_within(alloc, program, members, depth, of, end, &givens)?;
     Ok(elements)
@@ -293,8 +303,9 @@ fn members_within(
     let Some(variables) = variables else {
         return Ok(Some(found));
     };
+    let index = index_of(alloc, inits)?;
     for variable in variables.as_slice() {
-        let given = given_to(variable, inits);
+        let given = given_to(variable, &index, inits);
         match value_within(alloc, program, members, depth, variable.kind, given)? {
             Some(value) => push_member(alloc, &mut found, variable.name, value)?,
             None => return Ok(None),

@@ -15,7 +15,6 @@ ghost use Rattle.reference_change.specs.Changed.{changed};
 ghost use Rattle.reference_change.specs.Private.Phases.{StoppedAs, behind_exits};
 ghost use Rattle.reference_change.specs.Private.Turn.{IsTurn, new_of, old_of};
 
-use crate::copies::copy_store;
 use crate::phases::{come, fresh_store, leave};
 use crate::turn::Turn;
 use change_carry::change_names::{ChangeNames, Side};
@@ -25,7 +24,7 @@ use plc_series::Series;
 use plc_text::NoMemory;
 use reference_hooks::reference_tasks::Loaded;
 use reference_hooks::{Halt, Stopped};
-use run_state::RunState;
+use run_state::{Log, RunState, copy_store};
 use shape_trees::{Shapes, region_shapes};
 use std::alloc::Global;
 use value_trees::Member;
@@ -52,7 +51,7 @@ fn begin(alloc: Global, store: Series<Member>, ticks: u32) -> RunState
         frames: Series::new(alloc),
         ticks,
         moment: 0,
-        undo: Series::new(alloc),
+        undo: Log::new(alloc),
     }
 }
 

@@ -2,7 +2,6 @@
 #![tactic(auto)]
 
 mod changed;
-mod copies;
 mod hooks;
 mod phases;
 mod turn;

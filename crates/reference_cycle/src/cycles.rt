@@ -17,7 +17,7 @@ use plc_series::Series;
 use plc_text::{Fault, NoMemory};
 use process_image::{Located, collect, latch};
 use reference_tasks::{Loaded, run_task};
-use run_state::{RunState, Stop, roll_back};
+use run_state::{Log, RunState, Stop, roll_back};
 use std::alloc::Global;
 use value_trees::Member;
 
@@ -34,7 +34,7 @@ fn begun(alloc: Global, store: Series<Member>, moment: u64) -> RunState
         frames: Series::new(alloc),
         ticks: ALL_TICKS,
         moment,
-        undo: Series::new(alloc),
+        undo: Log::new(alloc),
     }
 }
 

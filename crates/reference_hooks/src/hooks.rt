@@ -18,7 +18,7 @@ use plc_series::Series;
 use plc_text::{Fault, NoMemory, Text};
 use program_tables::{RoutineId, line, name};
 use reference_tasks::{Loaded, enter};
-use run_state::{Frame, RunState, Stop, spend};
+use run_state::{Frame, Log, RunState, Stop, spend};
 use st_tree::Path;
 use std::alloc::Global;
 use value_trees::copy_path;
@@ -75,7 +75,7 @@ fn begin(alloc: Global, m: &mut RunState)
     ensures { state_of m.new ≡ record { store = trees.members_of m.old.store; frames = []; ticks = m.old.ticks; now = 0 } }
 {
     m.frames = Series::new(alloc);
-    m.undo = Series::new(alloc);
+    m.undo = Log::new(alloc);
     m.moment = 0;
 }
 

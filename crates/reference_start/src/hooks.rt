@@ -25,7 +25,7 @@ use program_tables::{RoutineId, line, name};
 use reference_tasks::call_steps::given_value;
 use reference_tasks::{Loaded, enter};
 use routine_tables::{Parameter, Recipient};
-use run_state::{Frame, RunState, Stop, spend};
+use run_state::{Frame, Log, RunState, Stop, spend};
 use st_tree::{Member, Note, Path, Program};
 use std::alloc::Global;
 use value_trees::{Value, copy_path};
@@ -171,7 +171,7 @@ fn begin(alloc: Global, m: &mut RunState)
     ensures { state_of m.new ≡ record { store = trees.members_of m.old.store; frames = []; ticks = m.old.ticks; now = 0 } }
 {
     m.frames = Series::new(alloc);
-    m.undo = Series::new(alloc);
+    m.undo = Log::new(alloc);
     m.moment = 0;
 }
 

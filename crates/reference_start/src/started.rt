@@ -13,7 +13,7 @@ use initial_trees::initial_store;
 use plc_series::Series;
 use plc_text::NoMemory;
 use reference_tasks::Loaded;
-use run_state::RunState;
+use run_state::{Log, RunState};
 use value_trees::Member;
 
 /// The ticks of all hooks of a first load.
@@ -42,7 +42,7 @@ pub fn start(on: &Loaded<'_>) -> Result<Started, NoMemory>
         frames: Series::new(on.alloc),
         ticks: ALL_TICKS,
         moment: 0,
-        undo: Series::new(on.alloc),
+        undo: Log::new(on.alloc),
     };
     match run_all(on, &ids, &mut m, &instances) {
         Ok(()) => Ok(Started::Ran {

@@ -1,6 +1,6 @@
 -- Regions and locals, read and written, and writes that are taken back.
 use Rattle.std.proofs.Common.{◌≡◌, ℕ, Bool, true, false, List, [], ◌∷◌, ◌++◌, Option, Some, None, Result, Ok, Err, refl, sym, ap, ◌∙◌}
-use Rattle.std.specs.Prelude.{slice_get, slice_set, map, option_map}
+use Rattle.std.specs.Prelude.{slice_get, slice_set, map, option_map, is_some, OnOk}
 use Rattle.std.proofs.lemmas.List.{map-set}
 use Rattle.st_tree.specs.declared.path.Step.{Step}
 use Rattle.st_tree.specs.declared.path.Path.{Path}
@@ -9,14 +9,16 @@ use Rattle.value_trees.proofs.ValueLaws.{store_laws}
 use Rattle.st_meaning.specs.ProcessImage.{or_same}
 use Rattle.st_meaning.specs.State.{Spot, in_store, in_frame, holds, State, Done, there, read, write, held_in, held_by, frame_at, frame_value, frames_with, with_local, ◌>>=◌}
 use Rattle.value_trees.specs.declared.value.Value.{Value as CodeValue}
-use Rattle.value_trees.specs.Value.{value_of}
+use Rattle.value_trees.specs.declared.value.Member.{Member}
+use Rattle.value_trees.specs.Value.{value_of, members_of}
 use Rattle.value_trees.specs.Private.Parts.{MemberExchanged}
 use Rattle.run_state.specs.declared.state.Slot.{Slot as CodeSlot}
 use Rattle.run_state.specs.declared.state.Frame.{Frame as CodeFrame}
 use Rattle.run_state.specs.declared.state.Undo.{Undo}
-use Rattle.run_state.specs.State.{frame_of, slot_of, stack, undone, unwind}
+use Rattle.run_state.specs.State.{frame_of, slot_of, stack, undone, unwind, or_whole}
 use Rattle.run_state.specs.Places.{spot_value, spot_with}
-use Rattle.run_state.specs.Private.Writes.{SlotPut, LocalPut, RegionPut, OkValue, written}
+use Rattle.run_state.specs.Private.Log.{RegionPut, OkValue}
+use Rattle.run_state.specs.Private.Writes.{SlotPut, LocalPut, written}
 use Rattle.run_state.proofs.Stack.{stack-at, stack-with, local_is, no_local}
 
 -- ---- reading and writing as one step
@@ -103,9 +105,35 @@ unwind-push : (us : List Undo) (u : Undo) (s : Store) → unwind (us ++ u ∷ []
 unwind-push [] u s = refl
 unwind-push (x ∷ us) u s = ap (undone x) (unwind-push us u s)
 
+-- a value is kept
+pub kept : (whole : Option (List Member)) (us us' : List Undo) (q q' : Path) (old : CodeValue) (s : Store) → us' ≡ us ++ record { path = q'; old = old } ∷ [] → q' ≡ q
+    → or_whole whole (unwind us' s) ≡ or_whole whole (unwind us (undone (record { path = q; old = old }) s))
+kept whole us us' q q' old s e p =
+    ap (or_whole whole) (ap (λ us. unwind us s) e ∙ unwind-push us (record { path = q'; old = old }) s ∙ ap (λ q. unwind us (undone (record { path = q; old = old }) s)) p)
+
+-- where the store is known as a whole, nothing is to be kept
+pub known : (whole : Option (List Member)) (us : List Undo) (s t : Store) → is_some whole ≡ true → or_whole whole (unwind us s) ≡ or_whole whole (unwind us t)
+known None us s t e = absurd cc
+known (Some ms) us s t e = refl
+
+pub not_known : (whole : Option (List Member)) → is_some whole ≡ false → whole ≡ None
+not_known None e = refl
+not_known (Some ms) e = absurd cc
+
+pub ok_behind : {T E : Type 0} (r : Result T E) (a b c : Store) → OnOk r (a ≡ b) → b ≡ c → OnOk r (a ≡ c)
+ok_behind (Ok x) a b c h e = h ∙ e
+ok_behind (Err x) a b c h e = h
+
+-- a copy from which all is taken back is the store as a whole
+pub shortened : (whole : Option (List Member)) (us : List Undo) (first copy store : List Member) → whole ≡ None → copy ≡ store → members_of first ≡ unwind us (members_of copy) → members_of first ≡ or_whole whole (unwind us (members_of store))
+shortened whole us first copy store n e h = h ∙ ap (λ ms. unwind us (members_of ms)) e ∙ sym (ap (λ o. or_whole o (unwind us (members_of store))) n)
+
+pub whole_is : (whole : Option (List Member)) (ms : List Member) (s : Store) → whole ≡ Some ms → members_of ms ≡ or_whole whole s
+whole_is whole ms s e = sym (ap (λ o. or_whole o s) e)
+
 -- a region was written, and that is remembered
-pub remembered : (us : List Undo) (u : Undo) (before after : Store) → put after u.path (value_of u.old) ≡ Some before → unwind (us ++ u ∷ []) after ≡ unwind us before
-remembered us u before after e = unwind-push us u after ∙ ap (unwind us) (ap (or_same after) e)
+pub remembered : (whole : Option (List Member)) (us : List Undo) (q : Path) (old : CodeValue) (was is first : Store) → put is q (value_of old) ≡ Some was → first ≡ or_whole whole (unwind us (undone (record { path = q; old = old }) is)) → first ≡ or_whole whole (unwind us was)
+remembered whole us q old was is first e h = h ∙ ap (λ o. or_whole whole (unwind us (or_same is o))) e
 
 -- the last replacement is taken back
 pub restored : (r : Option CodeValue) (u : Undo) (before after : Store) → RegionPut r before u.path (value_of u.old) after → after ≡ undone u before

@@ -1,3 +1,4 @@
 -- The words of private contracts.
 pub mod Frames
+pub mod Log
 pub mod Writes

@@ -1,8 +1,9 @@
 -- The code's state of a run as the meaning's, and when a step of the code agrees with one of the meaning.
-use Rattle.std.specs.Prelude.{◌≡◌, List, [], ◌∷◌, map, Result, Ok, Err}
+use Rattle.std.specs.Prelude.{◌≡◌, List, [], ◌∷◌, map, Option, Some, None, Result, Ok, Err}
 use Rattle.value_trees.specs.PlainValue.{Store, put}
 use Rattle.st_meaning.specs.ProcessImage.{or_same}
 use Rattle.st_meaning.specs.State.{Spot, in_store, in_frame, Slot, holds, bound, unbound, Frame, State, Outcome, Done, Fault}
+use Rattle.value_trees.specs.declared.value.Member.{Member}
 use Rattle.value_trees.specs.Value.{value_of, members_of}
 use Rattle.run_state.specs.declared.state.Spot.{Spot as CodeSpot}
 use Rattle.run_state.specs.declared.state.Spot.TheVariants.{Region, Local}
@@ -10,6 +11,7 @@ use Rattle.run_state.specs.declared.state.Slot.{Slot as CodeSlot}
 use Rattle.run_state.specs.declared.state.Slot.TheVariants.{Holds, Bound, Unbound}
 use Rattle.run_state.specs.declared.state.Frame.{Frame as CodeFrame}
 use Rattle.run_state.specs.declared.state.Undo.{Undo}
+use Rattle.run_state.specs.declared.state.Log.{Log}
 use Rattle.run_state.specs.declared.state.RunState.{RunState}
 use Rattle.run_state.specs.declared.state.Stop.{Stop}
 use Rattle.run_state.specs.declared.state.Stop.TheVariants as stop
@@ -57,9 +59,17 @@ abbrev pub unwind : List Undo → Store → Store
 unwind [] s = s
 unwind (u ∷ us) s = undone u (unwind us s)
 
--- the store when the list of replacements was empty
+-- the store that is known as a whole, else this one
+abbrev pub or_whole : Option (List Member) → Store → Store
+or_whole None s = s
+or_whole (Some ms) s = members_of ms
+
+-- the store when the log was empty
+abbrev pub before : Log → Store → Store
+before log s = or_whole log.whole (unwind log.replaced s)
+
 abbrev pub base_of : RunState → Store
-base_of m = unwind m.undo (members_of m.store)
+base_of m = before m.undo (members_of m.store)
 
 -- unless memory is wanting, nothing of it is lost
 abbrev pub Keeps : {A : Type 0} → Result A Stop → Store → Store → Type 0

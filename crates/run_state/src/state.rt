@@ -40,15 +40,28 @@ pub struct Undo {
     pub old: Value,
 }
 
-/// The regions with their names, the open calls, the outermost first, the ticks left, the moment of the cycle, and what was replaced in
-/// regions since the cycle began, the last at the end.
+/// What takes back what was written to regions since a cycle began.
+#[derive(Drop)]
+pub struct Log {
+    /// What was replaced, the last at the end.
+    pub replaced: Series<Undo>,
+    /// The regions as they were when the cycle began, once all that was replaced came to more than they hold. Then nothing is kept any more.
+    pub whole: Option<Series<Member>>,
+    /// How many values are kept before it is looked whether the regions hold more.
+    pub limit: usize,
+    /// How many more of them that is.
+    pub room: usize,
+}
+
+/// The regions with their names, the open calls, the outermost first, the ticks left, the moment of the cycle, and what takes its writes
+/// back.
 #[derive(Drop)]
 pub struct RunState {
     pub store: Series<Member>,
     pub frames: Series<Frame>,
     pub ticks: u32,
     pub moment: u64,
-    pub undo: Series<Undo>,
+    pub undo: Log,
 }
 
 /// Why a run stopped.

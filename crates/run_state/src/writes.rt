@@ -1,18 +1,19 @@
 //! Values are put at spots, and what a cycle wrote is taken back.
 
-ghost use Rattle.std.specs.Prelude.{◌≡◌, [], map};
+ghost use Rattle.std.specs.Prelude.{◌≡◌, [], None, map};
 ghost use Rattle.st_meaning.specs.State as run;
 ghost use Rattle.value_trees.specs.Value.{value_of, members_of};
-ghost use Rattle.run_state.specs.State.{Agrees, Keeps, base_of, slot_of, spot_of, stack, state_of, undone};
-ghost use Rattle.run_state.specs.Private.Writes.{LocalPut, RegionPut, SlotPut};
+ghost use Rattle.run_state.specs.State.{Agrees, Keeps, base_of, slot_of, spot_of, stack, state_of};
+ghost use Rattle.run_state.specs.Private.Writes.{LocalPut, SlotPut};
 
-use crate::state::{Frame, RunState, Slot, Spot, Stop, Undo, fault};
+use crate::log::{put_region, remember, take_back};
+use crate::state::{Frame, RunState, Slot, Spot, Stop, fault};
 use plc_series::Series;
 use plc_text::{FaultKind, NoMemory};
-use st_tree::{Path, Step};
+use st_tree::Step;
 use std::alloc::Global;
 use std::mem;
-use value_trees::{Member, Value, copy_path, exchange_at};
+use value_trees::{Value, exchange_at};
 
 /// Puts a slot in the place of one that was only held there.
 fn put_back(slot: &mut Slot, held: Slot)
@@ -41,19 +42,6 @@ fn put_in_slot(slot: &mut Slot, steps: &[Step], new: Value) -> bool
     }
 }
 
-/// Puts a value into a region, and gives back what stood there.
-fn put_region(store: &mut Series<Member>, path: &Path, new: Value) -> Option<Value>
-    ensures { RegionPut result (members_of store.old) path.now (value_of new) (members_of store.new) }
-{
-    match store.get_mut(path.region as usize) {
-        Some(member) => match exchange_at(&mut member.value, path.steps.as_slice(), new) {
-            Ok(old) => Some(old),
-            Err(_) => None,
-        },
-        None => None,
-    }
-}
-
 fn put_local(
     frames: &mut Series<Frame>,
     depth: usize,
@@ -79,15 +67,10 @@ pub fn put(alloc: Global, m: &mut RunState, spot: &Spot, new: Value, line: u32) 
 {
     match spot {
         Spot::Region(path) => match put_region(&mut m.store, path, new) {
-            Some(old) => {
-                let Ok(path) = copy_path(alloc, path) else {
-                    return Err(Stop::NoMemory);
-                };
-                match m.undo.push(Undo { path, old }) {
-                    Ok(()) => Ok(()),
-                    Err(NoMemory) => Err(Stop::NoMemory),
-                }
-            }
+            Some(old) => match remember(alloc, &mut m.undo, &m.store, path, old) {
+                Ok(()) => Ok(()),
+                Err(NoMemory) => Err(Stop::NoMemory),
+            },
             None => Err(fault(FaultKind::Null, line)),
         },
         Spot::Local(depth, local, steps) => {
@@ -100,20 +83,15 @@ pub fn put(alloc: Global, m: &mut RunState, spot: &Spot, new: Value, line: u32) 
     }
 }
 
-/// Puts back what was replaced.
-fn restore(store: &mut Series<Member>, undo: Undo)
-    ensures { members_of store.new ≡ undone undo (members_of store.old) }
-{
-    let Undo { path, old } = undo;
-    let _ = put_region(store, &path, old);
-}
-
 /// Puts back all that was replaced in regions since the cycle began.
 pub fn roll_back(m: &mut RunState)
     ensures store { members_of m.new.store ≡ base_of m.old }
-    ensures undo { m.new.undo ≡ [] }
+    ensures undo { m.new.undo.replaced ≡ [] }
+    ensures whole { m.new.undo.whole ≡ None }
 {
-    while let Some(last) = m.undo.pop() {
-        restore(&mut m.store, last);
-    }
+    take_back(&mut m.store, &mut m.undo.replaced);
+    let Some(whole) = m.undo.whole.take() else {
+        return;
+    };
+    m.store = whole;
 }

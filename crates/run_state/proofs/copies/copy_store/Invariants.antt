@@ -1,5 +1,5 @@
 use Rattle.std.proofs.Common.{◌≡◌, take}
-use Rattle.reference_change.proofs.copies.copy_store.Given as goal
+use Rattle.run_state.proofs.copies.copy_store.Given as goal
 
 -- what was copied so far
 abbrev pub invariant-loop-member : goal.invariant-loop-member

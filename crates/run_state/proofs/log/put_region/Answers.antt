@@ -3,7 +3,7 @@ use Rattle.value_trees.specs.declared.value.Member.{Member}
 use Rattle.value_trees.specs.Value.{value_of, members_of}
 use Rattle.value_trees.proofs.Parts.{member_exchanged, members_get}
 use Rattle.run_state.proofs.Stores.{region_put, no_region}
-use Rattle.run_state.proofs.writes.put_region.Goals as goal
+use Rattle.run_state.proofs.log.put_region.Goals as goal
 
 pub returns-in-Ok : goal.returns-in-Ok
 returns-in-Ok c =
