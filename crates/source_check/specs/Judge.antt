@@ -2,7 +2,7 @@
 use Rattle.std.specs.Prelude.{◌≡◌, ℕ, List}
 use Rattle.plc_text.specs.declared.refusal.Refusal.{Refusal}
 use Rattle.st_tree.specs.declared.program.Program.{Program as CheckedProgram}
-use Rattle.st_prelude.specs.declared.text.TheConstants.{PRELUDE}
+use Rattle.st_prelude.specs.Blocks.{standard_blocks}
 use Rattle.st_values.specs.Program.{Program}
 use Rattle.st_values.specs.View.{program_of}
 use Rattle.st_accepted.specs.Accepted.{Accepted}
@@ -16,7 +16,7 @@ pub record IsAcceptedAs (prelude text : List ℕ) (p : Program) : Type 0 where
 
 -- the same of the prelude of the standard blocks
 abbrev pub Accepts : List ℕ → Program → Type 0
-Accepts = IsAcceptedAs PRELUDE.now
+Accepts = IsAcceptedAs standard_blocks
 
 abbrev pub Refuses : List ℕ → Refusal → Type 0
-Refuses = IsRefusal PRELUDE.now
+Refuses = IsRefusal standard_blocks

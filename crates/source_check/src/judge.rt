@@ -12,7 +12,7 @@ use std::alloc::Global;
 pub struct Language;
 
 impl Judge for Language {
-    ghost use Rattle.st_prelude.specs.declared.text.TheConstants.{PRELUDE};
+    ghost use Rattle.st_prelude.specs.Blocks.{standard_blocks};
     ghost use Rattle.source_check.specs.Judge.{Accepts, Refuses};
     ghost use Rattle.source_check.specs.JudgeLaws.{judges as judges_law};
 
@@ -20,16 +20,16 @@ impl Judge for Language {
 
     ghost refuses = { Refuses };
 
-    ghost judges = { judges_law PRELUDE.now };
+    ghost judges = { judges_law standard_blocks };
 }
 
 impl Checker for Language {
-    ghost use Rattle.st_prelude.specs.declared.text.TheConstants.{PRELUDE};
+    ghost use Rattle.st_prelude.specs.Blocks.{standard_blocks};
     ghost use Rattle.source_check.specs.JudgeLaws.{unfolds as unfolds_law};
 
     fn check(alloc: Global, text: &Text) -> Result<Program, Denied> {
         check_source(alloc, text.as_str())
     }
 
-    ghost unfolds = { unfolds_law PRELUDE.now };
+    ghost unfolds = { unfolds_law standard_blocks };
 }

@@ -3,6 +3,7 @@
 ghost use Rattle.std.specs.Prelude.{◌≤◌, length, map, IfErr, IfOk};
 ghost use Rattle.st_tree.specs.Token.{Tokens};
 ghost use Rattle.st_lexer.specs.Token.{token_view};
+ghost use Rattle.st_prelude.specs.Blocks.{standard_blocks};
 ghost use Rattle.st_accepted.specs.Accepted.{Accepted, IsUnit, most_bytes};
 ghost use Rattle.unit_check.specs.Checking.{OnRefused};
 ghost use Rattle.source_check.specs.Source.{IsRefusal};
@@ -10,7 +11,7 @@ ghost use Rattle.source_check.specs.Source.{IsRefusal};
 use plc_text::Denied;
 use st_lexer::{Token, tokens};
 use st_parser_decl::parse;
-use st_prelude::{PRELUDE, with_prelude};
+use st_prelude::with_prelude;
 use st_tree::{Program, Unit};
 use std::alloc::Global;
 use unit_check::check;
@@ -19,8 +20,8 @@ use unit_check::check;
 fn whole_of(alloc: Global, text: &str, found: &[Token<'_>]) -> Result<Unit, Denied>
     requires fits { length text.now ≤ most_bytes }
     requires tokens { Tokens text.now (map token_view found.now) }
-    ensures ok { IfOk result (IsUnit PRELUDE.now text.now) }
-    ensures err { IfErr result (λ e. OnRefused e (IsRefusal PRELUDE.now text.now)) }
+    ensures ok { IfOk result (IsUnit standard_blocks text.now) }
+    ensures err { IfErr result (λ e. OnRefused e (IsRefusal standard_blocks text.now)) }
 {
     let own = parse(alloc, text, found)?;
     let whole = with_prelude(alloc, own)?;
@@ -29,8 +30,8 @@ fn whole_of(alloc: Global, text: &str, found: &[Token<'_>]) -> Result<Unit, Deni
 
 /// The unit that a source is, behind the declarations of the prelude.
 fn whole_unit(alloc: Global, text: &str) -> Result<Unit, Denied>
-    ensures ok { IfOk result (IsUnit PRELUDE.now text.now) }
-    ensures err { IfErr result (λ e. OnRefused e (IsRefusal PRELUDE.now text.now)) }
+    ensures ok { IfOk result (IsUnit standard_blocks text.now) }
+    ensures err { IfErr result (λ e. OnRefused e (IsRefusal standard_blocks text.now)) }
 {
     let found = tokens(alloc, text)?;
     let whole = whole_of(alloc, text, &found)?;
@@ -47,8 +48,8 @@ fn whole_unit(alloc: Global, text: &str) -> Result<Unit, Denied>
 ///
 /// A source is accepted as one program or has one such refusal, and not both. It takes time linear in the source but for what `check` says.
 pub fn check_source(alloc: Global, text: &str) -> Result<Program, Denied>
-    ensures accepted { IfOk result (Accepted PRELUDE.now text.now) }
-    ensures refused { IfErr result (λ e. OnRefused e (IsRefusal PRELUDE.now text.now)) }
+    ensures accepted { IfOk result (Accepted standard_blocks text.now) }
+    ensures refused { IfErr result (λ e. OnRefused e (IsRefusal standard_blocks text.now)) }
 {
     let whole = whole_unit(alloc, text)?;
     let program = check(alloc, &whole)?;

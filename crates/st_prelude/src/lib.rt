@@ -5,4 +5,3 @@ mod prelude;
 mod text;
 
 pub use prelude::with_prelude;
-pub use text::PRELUDE;

@@ -2,6 +2,7 @@
 
 ghost use Rattle.std.specs.Prelude.{◌≡◌, map, IfOk};
 ghost use Rattle.st_lexer.specs.Token.{token_view};
+ghost use Rattle.st_prelude.specs.Blocks.{standard_blocks};
 ghost use Rattle.st_prelude.specs.Prelude.{without_line, IsPrelude, HasPrelude};
 
 use crate::text::PRELUDE;
@@ -24,9 +25,9 @@ fn without_lines<'a>(alloc: Global, tokens: &[Token<'a>]) -> Result<Vec<Token<'a
     Ok(found)
 }
 
-/// The unit that the prelude is.
+/// The unit that the text of the standard blocks is.
 fn prelude(alloc: Global) -> Result<Unit, NoMemory>
-    ensures { IfOk result (λ unit. IsPrelude PRELUDE.now unit) }
+    ensures { IfOk result (λ unit. IsPrelude standard_blocks unit) }
 {
     let Ok(found) = tokens(alloc, PRELUDE) else {
         return Err(NoMemory);
@@ -39,9 +40,9 @@ fn prelude(alloc: Global) -> Result<Unit, NoMemory>
     }
 }
 
-/// The unit with the declarations of the prelude before its own. Their lines are 0.
+/// The unit with the standard blocks before its own declarations. Their lines are 0.
 pub fn with_prelude(alloc: Global, unit: Unit) -> Result<Unit, NoMemory>
-    ensures { IfOk result (HasPrelude PRELUDE.now unit) }
+    ensures { IfOk result (HasPrelude standard_blocks unit) }
 {
     let Unit { mut decls } = prelude(alloc)?;
     let Unit { decls: own } = unit;
