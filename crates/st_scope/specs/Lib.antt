@@ -1,3 +1,4 @@
+pub mod Locals
 pub mod Meant
 pub mod Tables
 pub mod Private

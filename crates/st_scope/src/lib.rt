@@ -13,5 +13,7 @@ mod telling;
 mod unit_tables;
 
 pub use iface_tables;
-pub use scope::{Meant, Qualifier, Scope};
+pub use places::Places;
+pub use scope::{Meant, Qualifier, Scope, local_places};
+pub use telling::tell_local;
 pub use tables::NameTables;

@@ -5,6 +5,7 @@ ghost use Rattle.std.specs.Option.{is_some};
 ghost use Rattle.st_rules.specs.Chains.{◌or_else◌};
 ghost use Rattle.st_rules.specs.Classes.{base_of, chain, classes_in, lookup};
 ghost use Rattle.st_rules.specs.Interfaces.{interfaces_in, interface_lookup, conforms, extends};
+ghost use Rattle.st_scope.specs.Locals.{ArePlaces};
 ghost use Rattle.st_scope.specs.Tables.{Knows};
 ghost use Rattle.st_rules.specs.Scope as scope;
 ghost use Rattle.st_scope.specs.Meant.{meant, meaning, qualifier};
@@ -98,6 +99,14 @@ fn qualifier_of(kind: &Option<StType>) -> Qualifier
     }
 }
 
+/// Where the first local of each name stands, for scopes with locals of these names in these places.
+pub fn local_places(alloc: Global, locals: &[DeclaredVariable]) -> Result<Places, NoMemory>
+    ensures { IfOk result (λ table. ArePlaces table locals.now) }
+{
+    let table = variables(alloc, locals, Which::All)?;
+    Ok(table)
+}
+
 /// The first local of the name.
 fn local_at<'a>(
     table: &Places,
@@ -125,8 +134,28 @@ impl<'a> Scope<'a> {
         requires tables { interfaces.now ≡ classes.now }
         ensures { IfOk result (λ s. s ≡ record { classes = classes_in classes.now.decls; interfaces = interfaces_in classes.now.decls; names = names.now.names; class = class; in_method = in_method; locals = locals.now }) }
     {
-        let places = variables(alloc, locals, Which::All)?;
-        Ok(Scope {
+        let places = local_places(alloc, locals)?;
+        Ok(Scope::over(
+            names, classes, interfaces, locals, places, class, in_method,
+        ))
+    }
+
+    /// The same scope, where it is known where the names of the locals stand.
+    pub fn over(
+        names: &'a NameTables,
+        classes: &'a ClassTables,
+        interfaces: &'a IfaceTables,
+        locals: &'a [DeclaredVariable],
+        places: Places,
+        class: Option<u32>,
+        in_method: bool,
+    ) -> Scope<'a>
+        requires names { Knows names.now (classes_in classes.now.decls) }
+        requires tables { interfaces.now ≡ classes.now }
+        requires places { ArePlaces places locals.now }
+        ensures { result ≡ record { classes = classes_in classes.now.decls; interfaces = interfaces_in classes.now.decls; names = names.now.names; class = class; in_method = in_method; locals = locals.now } }
+    {
+        Scope {
             names,
             classes,
             interfaces,
@@ -134,7 +163,14 @@ impl<'a> Scope<'a> {
             places,
             class,
             in_method,
-        })
+        }
+    }
+
+    /// Where the names of its locals stand.
+    pub fn into_places(self) -> Places
+        ensures { ArePlaces result self.locals }
+    {
+        self.places
     }
 
     /// The first local of the name.

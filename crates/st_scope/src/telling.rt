@@ -44,6 +44,16 @@ pub fn tell_shared(globals: &mut Series<DeclaredGlobal>, place: u32, kind: StTyp
     }
 }
 
+/// The local at the place has this type and means this.
+pub fn tell_local(locals: &mut Series<DeclaredVariable>, place: usize, kind: StType, target: Target)
+    ensures { locals.new ≡ changed_at (variable_told kind target) place locals.old }
+{
+    match locals.get_mut(place) {
+        Some(v) => tell_variable(v, kind, target),
+        None => {}
+    }
+}
+
 fn tell_own(class: &mut DeclaredClass, place: u32, kind: StType, target: Target)
     ensures { class.new ≡ member_told place kind target class.old }
 {

@@ -7,3 +7,4 @@ mod order;
 
 pub use arranged::arrange_groups;
 pub use groups::Group;
+pub use order::order_of_need;

@@ -1,2 +1,2 @@
 -- The words of private contracts.
-pub mod Rounds
+pub mod Telling

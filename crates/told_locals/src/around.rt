@@ -1,20 +1,26 @@
 //! What stands around a routine or a program, and what it declares in a scope.
 
 ghost use Rattle.std.specs.Prelude.{◌≡◌, IfOk};
+ghost use Rattle.declaration_list.specs.Written.{written_of};
 ghost use Rattle.told_laws.specs.ToldLaws.{Every, TellsKind};
 ghost use Rattle.constant_values.specs.ValueLaws.{ValuesHaveTypes};
 ghost use Rattle.told_locals.specs.Around.{IsAround, declared_in};
-ghost use Rattle.told_locals.specs.Private.Rounds.{scope_with};
+ghost use Rattle.st_scope.specs.Locals.{ArePlaces};
+ghost use Rattle.written_types.specs.Types.{TellsConstant};
+ghost use Rattle.told_locals.specs.Private.Telling.{scope_with};
 
 use class_tables::ClassTables;
 use declared_variables::iface_tables::IfaceTables;
-use declared_variables::st_scope::{NameTables, Scope};
+use declaration_list::WrittenName;
+use declared_variables::st_scope::{NameTables, Places, Scope};
 use declared_variables::{declared_locals, declared_program};
 use plc_series::Series;
 use plc_text::NoMemory;
 use st_rules::DeclaredVariable;
 use st_tree::{Name, Section, TypeSpec};
+use st_types::StType;
 use std::alloc::Global;
+use written_types::constant_of;
 
 /// What stands around a routine or a program: the tables of the unit, the class, where it is in one, and whether it is a method.
 #[derive(Clone, Copy)]
@@ -76,4 +82,31 @@ pub fn declared_with(
     )?;
     let list = declared(alloc, &s, of)?;
     Ok(list)
+}
+
+/// What can be told of a constant where these locals are known, and where their names stand.
+pub fn found_with(
+    alloc: Global,
+    around: &Around<'_>,
+    known: &[DeclaredVariable],
+    places: Places,
+    name: &WrittenName<'_>,
+) -> Result<(Option<(StType, i128)>, Places), NoMemory>
+    requires around { IsAround around.now }
+    requires kinds { Every TellsKind known.now }
+    requires places { ArePlaces places known.now }
+    ensures told { IfOk result (λ r. TellsConstant r.0 (scope_with around.now known.now) (written_of name.now)) }
+    ensures places { IfOk result (λ r. ArePlaces r.1 known.now) }
+{
+    let s = Scope::over(
+        around.names,
+        around.classes,
+        around.interfaces,
+        known,
+        places,
+        around.class,
+        around.in_method,
+    );
+    let found = constant_of(alloc, &s, name)?;
+    Ok((found, s.into_places()))
 }

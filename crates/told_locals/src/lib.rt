@@ -3,7 +3,7 @@
 
 mod around;
 mod rounds;
-mod same;
+mod telling;
 
 pub use around::{Around, Declaring};
 pub use declared_variables;

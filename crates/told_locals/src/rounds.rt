@@ -1,4 +1,4 @@
-//! Rounds over the locals of a routine or a program, until one tells nothing more.
+//! All that can be told of the locals of a routine or a program.
 
 ghost use Rattle.std.specs.Prelude.{◌≡◌, map, IfOk};
 ghost use Rattle.declared_names.specs.UnitNames as unit_names;
@@ -6,16 +6,18 @@ ghost use Rattle.declared_names.specs.UnitNames.{forgotten};
 ghost use Rattle.declared_names.specs.Variables.{sections_written};
 ghost use Rattle.declaration_list.specs.Written.{written_of};
 ghost use Rattle.told_locals.specs.Around.{IsAround, all_told, scope_around, sections_of};
-ghost use Rattle.told_locals.specs.Private.Rounds as rounds;
+ghost use Rattle.told_locals.specs.Private.Telling.{IsTold};
 
 use crate::around::{Around, Declaring, declared_with};
-use crate::same::same_told;
+use crate::telling::{Told, pass, tell_each};
 use declaration_list::{WrittenName, written_names};
+use declared_variables::st_scope::local_places;
 use plc_series::Series;
 use plc_text::{NoMemory, Text};
 use st_rules::DeclaredVariable;
 use st_tree::{Section, Target};
 use std::alloc::Global;
+use telling_groups::{Group, order_of_need};
 
 fn forgotten_target(constant: bool, target: Target) -> Target
     ensures { result ≡ unit_names.forgotten_target constant target }
@@ -53,25 +55,6 @@ fn forgotten_each(
     Ok(list)
 }
 
-fn count_constants(names: &[WrittenName<'_>]) -> usize
-    ensures { result ≡ rounds.constant_count (map written_of names.now) }
-{
-    let mut count: usize = 0;
-    for name in names {
-        if name.is_constant() {
-            count += 1;
-        }
-    }
-    count
-}
-
-fn constant_count(alloc: Global, sections: &[Section<u32>]) -> Result<usize, NoMemory>
-    ensures { IfOk result (λ n. n ≡ rounds.constant_count (sections_written sections.now)) }
-{
-    let names = written_names(alloc, sections)?;
-    Ok(count_constants(&names))
-}
-
 fn sections_of<'a>(of: &Declaring<'a>) -> &'a [Section<u32>]
     ensures { result.now ≡ sections_of of.now }
 {
@@ -81,23 +64,29 @@ fn sections_of<'a>(of: &Declaring<'a>) -> &'a [Section<u32>]
     }
 }
 
-/// The locals with what the first round tells.
-fn first_round(
-    alloc: Global,
-    around: &Around<'_>,
-    of: &Declaring<'_>,
-) -> Result<Series<DeclaredVariable>, NoMemory>
+/// The locals of which nothing is told.
+fn untold(alloc: Global, around: &Around<'_>, of: &Declaring<'_>) -> Result<Told, NoMemory>
     requires { IsAround around.now }
-    ensures { IfOk result (λ vs. vs ≡ rounds.told_in of.now (scope_around around.now) 1) }
+    ensures { IfOk result (λ t. IsTold around.now of.now t) }
 {
     let named = declared_with(alloc, around, of, &[])?;
-    let first = forgotten_each(alloc, named.as_slice())?;
-    let known = declared_with(alloc, around, of, first.as_slice())?;
-    Ok(known)
+    let known = forgotten_each(alloc, named.as_slice())?;
+    let places = local_places(alloc, known.as_slice())?;
+    Ok(Told { known, places })
 }
 
-/// The locals of a routine, its result first, or of a program, with all that can be told of them. Each round goes over all of them, and as
-/// many are needed as constants need one another in a row; so it takes time linear in the text where few do.
+/// The places of names, each behind those that it needs, where that can be. Nothing is said of the order, since no answer depends on it.
+fn order_of(alloc: Global, names: &[WrittenName<'_>]) -> Result<Vec<usize>, NoMemory> {
+    let mut groups = Vec::new(alloc);
+    for name in names {
+        groups.push(Group::Globals(0, *name))?;
+    }
+    order_of_need(alloc, &groups)
+}
+
+/// The locals of a routine, its result first, or of a program, with all that can be told of them. The constants are told in an order of need,
+/// so that each is evaluated once where the order is right, and then whatever is left, until nothing more can be told; so it takes time
+/// linear in the text but where constants need themselves or names are declared twice.
 pub fn told_locals(
     alloc: Global,
     around: &Around<'_>,
@@ -106,14 +95,17 @@ pub fn told_locals(
     requires { IsAround around.now }
     ensures { IfOk result (λ vs. vs ≡ all_told of.now (scope_around around.now)) }
 {
-    let most = constant_count(alloc, sections_of(of))?;
-    let mut known = first_round(alloc, around, of)?;
-    for _round in 0..most {
-        let next = declared_with(alloc, around, of, known.as_slice())?;
-        if same_told(known.as_slice(), next.as_slice()) {
-            return Ok(known);
+    let names = written_names(alloc, sections_of(of))?;
+    let order = order_of(alloc, &names)?;
+    let first = untold(alloc, around, of)?;
+    let mut told = tell_each(alloc, around, of, &names, first, &order)?;
+    // each round but the last tells one constant more at least
+    for _round in 0..=names.len() {
+        let (next, any) = pass(alloc, around, of, &names, told)?;
+        if !any {
+            return declared_with(alloc, around, of, next.known.as_slice());
         }
-        known = next;
+        told = next;
     }
-    Ok(known)
+    Err(NoMemory)
 }
