@@ -5,7 +5,7 @@ use mathlib.Core.Logic.{dite}
 use native.Mathlib.Decide.{ℕ_discrete}
 use Rattle.cycle_journal.specs.declared.entry.CycleReply.{CycleReply}
 use Rattle.cycle_journal.specs.declared.entry.Entry.{Entry}
-use Rattle.plant_rules.specs.Meaning.{Contents, Meaning, Frames, bytes_at, Has, AgreeOn, FitOn, last_moment}
+use Rattle.plant_rules.specs.Meaning.{Contents, Meaning, Frames, bytes_at, Has, AgreeOn, FitOn, last_moment, ChangesOnly}
 use Rattle.plant_rules.specs.Next.{Spare}
 use Rattle.plant_rules.specs.One.{answer_of, held_after}
 use Rattle.plant_rules.specs.History.{Past, Script, begun, finished, State, Stage, idle, open_by, done, Turn, free, wanted_by, under_way, stage_at, with_stage, at_play, now_of, input_of, task_of, is_cycle, entry, finish_of, cycle_left, cycle_reply, IsOpen, MayBegin, state_of, with_event}
@@ -20,7 +20,7 @@ use Rattle.plant_core.specs.Hub.{Sound}
 use Rattle.plant_core.specs.Claim.{HasRun}
 use Rattle.plant_core.specs.Private.Tasks.{AreHeld}
 use Rattle.plant_core.specs.Private.Keeping.{Fields, AtHome, IsSpare, KitAt, Holds, Kept}
-use Rattle.plant_core.proofs.Stages.{task_in, contents_in, open_still, map-set, set_behind, set_done, done_marked, done_open_too, room_to, turning_free, home_of, home_as, kept_event}
+use Rattle.plant_core.proofs.Stages.{task_in, contents_in, open_still, map-set, set_behind, set_done, done_marked, done_open_too, room_to, turning_free, home_of, home_as, kept_event, state_more}
 
 -- a state with other stages
 abbrev pub staged : {W : Type 0} → State W → List Stage → State W
@@ -349,3 +349,13 @@ module _ {W K : Type 0} (good : W → ℕ → K → Type 0) (m : Meaning W) (fra
       (subst (λ (z : State W). Holds m v.script f' good z) back holds)
       record { script-is = k.fixed.script-is; status-all = length-set f.status p Done ∙ k.fixed.status-all; inputs = k.fixed.inputs }
       (subst (λ (z : State W). Room z.stages z.turn (length f'.entries) f'.entry_room (length v.history + 1) f'.event_room) back room)
+
+-- the end of a cycle changes what its task writes and nothing else
+pub finished_others : {W : Type 0} (m : Meaning W) (frames : Frames m) (v v' : Past W) (w p t : ℕ) (c : Contents) (r : CycleReply) → v' ≡ with_event v w p (finished r) → stage_at (state_of m v).stages p ≡ open_by w t c
+    → ChangesOnly (m.writes (state_of m v).version t) (state_of m v).store (state_of m v').store
+finished_others {W} m frames v v' w p t c r e is =
+    let s = state_of m v in
+    let only = λ (z : State W). ChangesOnly (m.writes s.version t) s.store z.store in
+    subst (λ (z : Past W). only (state_of m z)) (sym e)
+    (subst only (sym (state_more m v w p (finished r)))
+    (subst (λ (g : Stage). only (finish_of m v.script g s p r)) (sym is) (frames.elsewhere s.version t (now_of (at_play m v.script p)) (input_of (at_play m v.script p)) s.store)))

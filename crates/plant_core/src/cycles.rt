@@ -2,7 +2,7 @@
 
 ghost use Rattle.std.specs.Prelude.{◌≡◌, ◌<◌, ◌≤◌, true, length, IsSome, Some, None, slice_index_or, slice_set};
 ghost use Rattle.std.specs.Arc.{arc_value};
-ghost use Rattle.plant_rules.specs.Meaning.{last_moment};
+ghost use Rattle.plant_rules.specs.Meaning.{ChangesOnly, last_moment};
 ghost use Rattle.plant_rules.specs.One.{answer_of};
 ghost use Rattle.plant_rules.specs.History.{now_of, input_of, state_of, with_event, begun, finished, answered, is_cycle, at_play, MayBegin, Follows};
 ghost use Rattle.plant_core.specs.Claim.{HasClaimed, HasRun};
@@ -161,11 +161,12 @@ impl<P: Controlled> Core<P> {
         }
     }
 
-    /// Ends an open claim, with its entry: what it wrote comes home.
+    /// Ends an open claim, with its entry: what it wrote comes home, and no other contents change.
     pub fn finish(&mut self, who: u32, ran: Ran<P>)
         requires ran { HasRun P.meaning self.old.script (state_of P.meaning self.old) who ran.play ran.task ran.now ran.input.value.items (arc_value ran.kit.shared) ran.taken.value ran.reply ran.kit.carrier }
         requires work { P.ready (arc_value ran.kit.shared) ran.task ran.kit.work }
-        ensures { self.new ≡ with_event self.old who ran.play (finished ran.reply) }
+        ensures event { self.new ≡ with_event self.old who ran.play (finished ran.reply) }
+        ensures others { ChangesOnly (P.meaning.writes (state_of P.meaning self.old).version ran.task) (state_of P.meaning self.old).store (state_of P.meaning self.new).store }
     {
         let Ran {
             play,

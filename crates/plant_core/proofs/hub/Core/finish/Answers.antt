@@ -6,7 +6,7 @@ use Rattle.plant_rules.specs.History.{finished}
 use Rattle.plant_history.proofs.Running.{done_open}
 use Rattle.plant_moves.specs.Moves.{MayMove}
 use Rattle.plant_core.proofs.Stages.{onward}
-use Rattle.plant_core.proofs.CycleLaws.{kept_ended, spare_again}
+use Rattle.plant_core.proofs.CycleLaws.{finished_others, kept_ended, spare_again}
 use Rattle.plant_core.proofs.CauseLaws.{at_once, room_of, version_is, view_more, may_come, task_there, entry_play, open_no_change, place_low, held_ended, moved_by}
 use Rattle.plant_core.proofs.hub.Core.finish.Goals as goal
 
@@ -64,6 +64,8 @@ invariant_of-self g c =
     record { same = refl; works = c.requires.work; spare = spare_again g.P.Controlled.meaning g.met.P.Controlled.frames _ _ _ _ _ _ _ _ _ _ _ _ _ _ (subst g.P.Controlled.meaning.right (sym c.requires.ran.of-is) k.holds.sound.right) c.requires.ran moved }
     (held_ended _ _ _ _ _ _ _ _ k c.place_of_task-place.ensures c.hold.ensures)))
 
-pub returns : goal.returns
-returns g c =
-    rw (c.push_reserved.ensures.items, c.mark.ensures, map-append) (view_more _ _ _ _ _ _ c.self.view_is (ap finished c.of-seen.ensures))
+pub returns-clause-event : goal.returns-clause-event
+returns-clause-event g c = rw (c.push_reserved.ensures.items, c.mark.ensures, map-append) (view_more _ _ _ _ _ _ c.self.view_is (ap finished c.of-seen.ensures))
+
+pub returns-clause-others : goal.returns-clause-others
+returns-clause-others g c = finished_others g.P.Controlled.meaning g.met.P.Controlled.frames _ _ _ _ _ _ _ (returns-clause-event g c) c.requires.ran.open-is
