@@ -20,6 +20,7 @@ use Rattle.st_unit_rules.specs.Checked.{IsChecked}
 use Rattle.st_unit_rules.specs.UnitRefusal.{UnitRefusal}
 use Rattle.st_unit_rules.proofs.RefusalLaws as r
 use Rattle.refusal_codes.proofs.RefusalCodes.{refusal_codes}
+use Rattle.st_accepted.proofs.Decided.{one_or_other}
 use Rattle.st_accepted.proofs.OneChecked.{one_checked}
 use Rattle.st_accepted.specs.Accepted.{most_bytes, IsUnit, Accepted, RefusedFor, too_long, bad_place, no_unit, bad_unit}
 use Rattle.st_accepted.specs.AcceptedLaws.{AcceptedLaws}
@@ -123,4 +124,4 @@ module _ (prelude text : List ℕ) where
   no_hook code declaration line (bad_unit whole x k) = refusal_codes.refusals whole.decls code declaration line k
 
 pub accepted_laws : AcceptedLaws
-accepted_laws = record { one_program = one_program; never_both = never_both; one_refusal = one_refusal; no_hook = no_hook }
+accepted_laws = record { one_program = one_program; never_both = never_both; one_refusal = one_refusal; one_or_other = one_or_other; no_hook = no_hook }

@@ -1,2 +1,3 @@
 pub mod AcceptedLaws
+mod Decided
 pub mod OneChecked
