@@ -1,3 +1,4 @@
+use Rattle.std.proofs.Common.{refl}
 use Rattle.declared_graph.specs.Private.Names.{all_named}
 use Rattle.declared_graph.proofs.NameLaws.{place_names, call_names, chain_names, hash_names}
 use Rattle.declared_graph.proofs.names.+names.Goals as goal
