@@ -2,10 +2,12 @@
 use Rattle.std.proofs.Common.{Bool, ◌≡◌, ℕ, List, [], ◌∷◌, ◌++◌, refl, sym, ap, ◌∙◌, append-nil, append_assoc}
 use Rattle.std.specs.Prelude.{flat_map}
 use Rattle.std.proofs.lemmas.Grind.{flat_map-append}
+use Rattle.std.proofs.lemmas.List.{map-append}
 use Rattle.st_types.specs.declared.elem.Elem.{Elem}
 use Rattle.st_tree.specs.declared.expression.Argument.{Argument as CodeArgument}
 use Rattle.st_tree.specs.declared.expression.Literal.{Literal}
 use Rattle.st_tree.specs.declared.expression.Place.{Place as CodePlace}
+use Rattle.st_tree.specs.declared.expression.Root.{Root}
 use Rattle.st_tree.specs.declared.expression.Root.TheVariants as root
 use Rattle.st_tree.specs.declared.expression.Selector.{Selector as CodeSelector}
 use Rattle.st_tree.specs.declared.expression.Tail.{Tail}
@@ -14,9 +16,10 @@ use Rattle.st_tree.specs.declared.expression.Expr.TheVariants as code
 use Rattle.st_tree.specs.declared.expression.Selector.TheVariants as selection
 use Rattle.st_tree.specs.declared.type_spec.ArraySpec.{ArraySpec}
 use Rattle.st_tree.specs.declared.type_spec.TypeSpec.{TypeSpec}
-use Rattle.st_tree.specs.Expression.{Expression, Selector, Field, Index, Target, Selectors, selector_then, expression_of, expression_of-Call, expression_of-Chain, expression_of-Int, expression_of-Typed, expression_of-Time, expression_of-True, expression_of-False, expression_of-Null, expression_of-Now, selector_of, selector_of-Field, selector_of-Target, place_of, place_of-root, place_of-selectors, selectors_of, arguments_of, tails_of}
-use Rattle.st_unit_rules.specs.Cycles.{Named, named_in, named_by_root, named_in_selectors, named_in_selector, named_in_arguments, named_in_tails, named_in_bounds, begins_with_field}
-use Rattle.declared_graph.specs.Private.Names.{is_field, named_with, named_in_place, named_in_bound, named_in_arrays}
+use Rattle.st_tree.specs.Expression.{Expression, Selector, Field, Index, Target, Selectors, selector_then, expression_of, expression_of-Call, expression_of-Chain, expression_of-Enumerator, expression_of-Int, expression_of-Typed, expression_of-Time, expression_of-True, expression_of-False, expression_of-Null, expression_of-Now, selector_of, selector_of-Field, selector_of-Target, place_of, place_of-root, place_of-selectors, selectors_of, arguments_of, tails_of}
+use Rattle.st_unit_rules.specs.Cycles.{Named, before_hash, named_in, named_by_root, named_in_selectors, named_in_selector, named_in_arguments, named_in_tails, named_in_bounds, begins_with_field}
+use Rattle.declared_graph.specs.declared.names.Named.{Named as Lent}
+use Rattle.declared_graph.specs.Private.Names.{named_as, all_named, is_field, named_with, named_in_place, named_in_bound, named_in_arrays}
 
 pub begins_by_first : (x : Selector ℕ) (ss : Selectors ℕ) → begins_with_field (selector_then x ss) ≡ is_field x
 begins_by_first (Field l n) ss = refl
@@ -60,6 +63,18 @@ pub root_names : (p : CodePlace ℕ) (ss : List (CodeSelector ℕ)) (l : ℕ) (n
 root_names p ss l name dot h e d =
     ap (λ b. named_with b name ∷ []) (d ∙ ap begins_with_field (ap selectors_of e ∙ sym (place_of-selectors p))) ∙ ap (λ r. named_by_root r (place_of p).1) (sym (place_of-root p ∙ h))
 
+-- what a name before `#` adds
+pub hash_names : (e : Expr ℕ) (l : ℕ) (t : List ℕ) (k : ℕ) (n : List ℕ) (old new : List Lent) (x : Lent) → e ≡ code.Enumerator l t k n → new ≡ old ++ x ∷ [] → named_as x ≡ before_hash l t
+    → all_named new ≡ all_named old ++ named_in (expression_of e)
+hash_names e l t k n old new x is h d =
+    ap all_named h ∙ map-append named_as old (x ∷ []) ∙ ap (λ ys. all_named old ++ ys) (ap (λ y. y ∷ []) d ∙ sym (ap named_in (ap expression_of is ∙ expression_of-Enumerator l t k n)))
+
+-- what the name adds with which a place begins
+pub name_added : (p : CodePlace ℕ) (ss : List (CodeSelector ℕ)) (l : ℕ) (name : List ℕ) (dot : Bool) (old new : List Lent) (x : Lent) → p.root ≡ root.Name l name → ss ≡ p.selectors → dot ≡ begins_with_field (selectors_of ss)
+    → new ≡ old ++ x ∷ [] → named_as x ≡ named_with dot name → all_named new ≡ all_named old ++ named_by_root (place_of p).0 (place_of p).1
+name_added p ss l name dot old new x is e d h n =
+    ap all_named h ∙ map-append named_as old (x ∷ []) ∙ ap (λ ys. all_named old ++ ys) (ap (λ y. y ∷ []) n ∙ root_names p ss l name dot is e d)
+
 -- ---- what names nothing
 
 nothing : (old : List Named) (xs : List Named) → xs ≡ [] → old ≡ old ++ xs
@@ -98,3 +113,6 @@ pub none_in_target : (old : List Named) (l : ℕ) → old ≡ old ++ named_in_se
 none_in_target old l = nothing old (named_in_selector (selector_of (selection.Target l))) (ap named_in_selector (selector_of-Target l))
 
 pub ruleset no_index = (none_in_field, none_in_target)
+
+pub no_name : (old : List Named) (p : CodePlace ℕ) (r : Root ℕ) → p.root ≡ r → ((ss : Selectors ℕ) → named_by_root r ss ≡ []) → old ≡ old ++ named_by_root (place_of p).0 (place_of p).1
+no_name old p r is h = nothing old (named_by_root (place_of p).0 (place_of p).1) (ap (λ x. named_by_root x (place_of p).1) (place_of-root p ∙ is) ∙ h (place_of p).1)

@@ -50,7 +50,6 @@ fn with_name<'a>(before_dot: bool, name: &'a Text) -> Named<'a>
 }
 
 /// Adds the name with which a place begins.
-#[tactic(auto, using(st_tree::specs::Expression::expression_views))]
 fn add_root<'a>(list: &mut Vec<Named<'a>>, place: &'a Place<u32>) -> Result<(), NoMemory>
     ensures { OnOk result (all_named list.new.items ≡ all_named list.old.items ++ cycles.named_by_root (place_of place.now).0 (place_of place.now).1) }
 {
@@ -65,7 +64,6 @@ fn add_root<'a>(list: &mut Vec<Named<'a>>, place: &'a Place<u32>) -> Result<(), 
 
 /// Adds what a place names.
 #[cycle(names)]
-#[tactic(auto, using(st_tree::specs::Expression::expression_views))]
 fn add_place<'a>(list: &mut Vec<Named<'a>>, place: &'a Place<u32>) -> Result<(), NoMemory>
     ensures { OnOk result (all_named list.new.items ≡ all_named list.old.items ++ named_in_place (place_of place.now).0 (place_of place.now).1) }
 {

@@ -1,6 +1,7 @@
 //! What the innermost array of a type is of.
 
 ghost use Rattle.std.specs.Prelude.{◌≡◌, IfOk, ◌&&◌, not, option_and_then};
+ghost use Rattle.std.specs.Option.{is_some};
 ghost use Rattle.plc_text.specs.declared.code.Code.TheVariants.{E07};
 ghost use Rattle.st_rules.specs.Expressions as expressions;
 ghost use Rattle.st_rules.specs.Faults as faults;
@@ -79,6 +80,13 @@ fn is_instance(kind: &Option<StType>) -> bool
     }
 }
 
+/// Whether a type has the name.
+fn is_found(s: &Scope<'_>, name: &Text) -> bool
+    ensures { result ≡ is_some (written.type_declared s.now name.now) }
+{
+    s.type_named(name).is_some()
+}
+
 /// E07 where a type is found that is no class and no function block.
 fn reference_fault(line: u32, found: bool, of: &Option<StType>) -> Option<(Code, u32)>
     ensures { result ≡ least (faults.when (found && not (is_instance_told of.now)) E07 line) }
@@ -130,7 +138,7 @@ fn reference(
 {
     let of = named_type(alloc, s, name)?;
     let kind = reference_to(&of);
-    let found = s.type_named(name).is_some();
+    let found = is_found(s, name);
     let other = reference_fault(name_line, found, &of);
     let note = noted(alloc, line, &kind)?;
     let name_note = noted(alloc, name_line, &of)?;

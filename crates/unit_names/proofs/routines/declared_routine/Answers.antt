@@ -7,5 +7,5 @@ outcome-requires-clause-kinds c = locals_tell c.args.around.now c.args.name.now.
 
 pub returns : goal.returns
 returns c =
-    routine_is c.args.around.now c.args.name.now.text c.args.of.now c.args.sections.now c.as_slice.result.now (c.as_slice.ensures ∙ c.in_ok-list.ensures) c.args.modifiers.now _ c.in_ok-text.ensures c.method_access.ensures
+    routine_is c.args.around.now c.args.name.now.text c.args.of.now c.args.sections.now c.as_slice.result.now (c.as_slice.ensures ∙ c.in_ok-list.ensures) c.args.modifiers.now _ (c.in_ok-text.ensures ∙ c.as_str.ensures) c.method_access.ensures
     c.is_abstract.ensures c.in_ok-outcome.ensures c.in_ok-parameters.ensures

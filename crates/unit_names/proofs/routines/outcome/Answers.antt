@@ -2,7 +2,7 @@ use Rattle.std.proofs.Common.{sym, ap, ◌∙◌}
 use Rattle.st_rules.specs.declared.signature.ResultType.TheVariants as outcome
 use Rattle.declared_names.specs.WrittenTypes.{type_written}
 use Rattle.declared_names.specs.UnitNames.{result_written}
-use Rattle.told_locals.proofs.RoundLaws.{around-values}
+use Rattle.told_locals.proofs.TellingLaws.{around-values}
 use Rattle.unit_names.specs.Private.Known.{within}
 use Rattle.unit_names.proofs.routines.outcome.Goals as goal
 
