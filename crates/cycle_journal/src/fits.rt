@@ -13,7 +13,7 @@ use plc_text::is_upper_word;
 use st_tree::is_keyword;
 
 /// Whether the entry is one for these plays.
-pub fn fits(plays: &[Play], entry: &Entry) -> bool
+pub fn fits_plays(plays: &[Play], entry: &Entry) -> bool
     ensures { IsTrue result ↔ FitsEntry plays.now entry.now }
 {
     match play_numbered(plays, entry.play) {

@@ -14,6 +14,7 @@ mod reading;
 mod writing;
 
 pub use entry::{Answer, CycleReply, Entry};
+pub use fits::fits_plays;
 pub use interleaving::interleaving_laws;
 pub use journal_error::JournalError;
 pub use outputs::Outputs;

@@ -12,7 +12,7 @@ ghost use Rattle.cycle_journal.specs.Private.Reading.{end_line, OnBadLine, IsNoE
 
 use crate::candidate::candidate;
 use crate::entry::Entry;
-use crate::fits::fits;
+use crate::fits::fits_plays;
 use crate::journal_error::JournalError;
 use crate::line_error::LineError;
 use crate::play::Play;
@@ -135,7 +135,7 @@ fn read_entry(alloc: Global, plays: &[Play], line: &str) -> Result<Entry, LineEr
 fn is_line_of(alloc: Global, plays: &[Play], entry: &Entry, line: &str) -> Result<bool, NoMemory>
     ensures { IfOk result (λ is. IsTrue is ↔ (FitsEntry plays.now entry.now × (line.now ≡ entry_text plays.now entry.now))) }
 {
-    if !fits(plays, entry) {
+    if !fits_plays(plays, entry) {
         return Ok(false);
     }
     let mut text = Text::new(alloc);

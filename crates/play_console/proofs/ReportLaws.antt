@@ -20,7 +20,7 @@ use Rattle.play_console.specs.Report.{ReportsRun, ran, refused}
 
 module _ (Accepts : List ℕ → Program → Type 0) (Refuses : List ℕ → Refusal → Type 0) (sources : List (List ℕ)) (text : List ℕ) (plays : List Play) (p : Program) (v : Verdict) (out : List ℕ) where
   pub told : (came : Played) → Accepts text p → IsPlayed Accepts Refuses sources text p plays came → Tells plays came v out → ReportsRun Accepts Refuses sources text plays v out
-  told (played.Entries entries) accepted is tells = ran entries is.0 is.1 tells.0 tells.1
+  told (played.Entries entries) accepted is tells = ran entries is.0 is.1 tells.1 tells.0 tells.2
   told (played.Refused r) accepted is tells = refused r (by_hook p accepted is) tells.0 tells.1
 
 pub refused_so : (d : Denied) (r : Refusal) (P : Refusal → Type 0) → d ≡ denied.Refused r → OnRefused d P → P r

@@ -1,7 +1,8 @@
 //! What `play` says on bytes.
 
-ghost use Rattle.std.specs.Prelude.{◌≡◌, ◌≤◌, ℕ, List, length, IfOk};
+ghost use Rattle.std.specs.Prelude.{◌≡◌, ◌≤◌, ℕ, List, length, IfOk, IsTrue};
 ghost use Rattle.std.specs.Map.{values_of};
+ghost use Rattle.cycle_journal.specs.Fits.{Fits};
 ghost use Rattle.cycle_journal.specs.Writing.{journal_text as text_of_journal};
 ghost use Rattle.scenario.specs.Scenario.{contents_of};
 ghost use Rattle.st_values.specs.View.{program_of};
@@ -11,7 +12,7 @@ ghost use Rattle.play_console.specs.Report.{PlayReports, ReportsRun};
 ghost use Rattle.play_console.specs.Private.Played.{Tells};
 
 use console_command::{Checker, Report, Verdict, refused_report, script_report};
-use cycle_journal::{Entry, Play, journal_text};
+use cycle_journal::{Entry, Play, fits_plays, journal_text};
 use plc_text::{Denied, NoMemory, Text};
 use reference_journal::{Played, play_all};
 use scenario::{Scenario, ScenarioError, read_scenario};
@@ -19,11 +20,29 @@ use st_names::Names;
 use st_tree::Program;
 use std::alloc::Global;
 
+/// Whether each entry is one for the plays.
+fn all_fit(plays: &[Play], entries: &[Entry]) -> bool
+    ensures { IsTrue result → Fits plays.now entries.now }
+{
+    for entry in entries {
+        if !fits_plays(plays, entry) {
+            return false;
+        }
+    }
+    true
+}
+
 /// The report of a run on one thread.
 fn journal_report(alloc: Global, plays: &[Play], entries: &[Entry]) -> Result<Report, NoMemory>
     ensures verdict { IfOk result (λ report. report.verdict ≡ Verdict.Done) }
+    ensures fit { IfOk result (λ report. Fits plays.now entries.now) }
     ensures text { IfOk result (λ report. report.text ≡ text_of_journal plays.now entries.now) }
 {
+    // This is never met: an entry of a run does not fit its play only where the number of a version is past 32 bits, for which a scenario
+    // has too few plays.
+    if !all_fit(plays, entries) {
+        return Err(NoMemory);
+    }
     let text = journal_text(alloc, plays, entries)?;
     Ok(Report {
         verdict: Verdict::Done,

@@ -84,5 +84,5 @@ tp = text_of (
     [])
 
 -- what stands before the declarations of each program text
-abbrev pub standard_blocks : List ℕ
+unfoldable pub standard_blocks : List ℕ
 standard_blocks = r_trig ++ f_trig ++ sr ++ rs ++ ctu ++ ctd ++ ctud ++ ton ++ tof ++ tp

@@ -25,11 +25,11 @@ fn without_lines<'a>(alloc: Global, tokens: &[Token<'a>]) -> Result<Vec<Token<'a
     Ok(found)
 }
 
-/// The unit that the text of the standard blocks is.
-fn prelude(alloc: Global) -> Result<Unit, NoMemory>
-    ensures { IfOk result (λ unit. IsPrelude standard_blocks unit) }
+/// The unit that a text is, with 0 for each line.
+fn prelude_of(alloc: Global, text: &str) -> Result<Unit, NoMemory>
+    ensures { IfOk result (λ unit. IsPrelude text.now unit) }
 {
-    let Ok(found) = tokens(alloc, PRELUDE) else {
+    let Ok(found) = tokens(alloc, text) else {
         return Err(NoMemory);
     };
     let plain = without_lines(alloc, &found)?;
@@ -38,6 +38,13 @@ fn prelude(alloc: Global) -> Result<Unit, NoMemory>
         Ok(unit) => Ok(unit),
         Err(_) => Err(NoMemory),
     }
+}
+
+/// The unit that the standard blocks are.
+fn prelude(alloc: Global) -> Result<Unit, NoMemory>
+    ensures { IfOk result (λ unit. IsPrelude standard_blocks unit) }
+{
+    prelude_of(alloc, PRELUDE)
 }
 
 /// The unit with the standard blocks before its own declarations. Their lines are 0.
