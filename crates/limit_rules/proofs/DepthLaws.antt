@@ -1,7 +1,6 @@
 -- How deep a type is, where it was told.
-use Rattle.std.proofs.Common.{◌≡◌, ℕ, Bool, false, List, Option, Some, None, refl, sym, ap, ◌∙◌, arith}
-use Rattle.std.specs.Prelude.{nat_lt, ◌||◌, ◌&&◌, not}
-use Rattle.std.proofs.lemmas.Bool.Decides.{nat_tests}
+use Rattle.std.proofs.Common.{◌≡◌, ℕ, Bool, false, List, Option, Some, None, refl, sym, ap, ◌∙◌}
+use Rattle.std.specs.Prelude.{◌||◌, ◌&&◌, not}
 use Rattle.plc_text.specs.declared.code.Code.{Code}
 use Rattle.plc_text.specs.declared.code.Code.TheVariants.{E16}
 use Rattle.st_types.specs.declared.st_type.StType.{StType}
@@ -15,9 +14,6 @@ use Rattle.limit_rules.specs.declared.depths.Within.{Within}
 use Rattle.limit_rules.specs.declared.depths.Within.TheVariants as within
 use Rattle.limit_rules.specs.Depths.{depth_faults}
 use Rattle.limit_rules.specs.Private.Depths.{has_more}
-
-pub not_fewer : (n : ℕ) → not (nat_lt n 65) ≡ nat_lt 64 n
-not_fewer n = grind (arith, nat_tests)
 
 -- ---- by where a type is written
 

@@ -16,12 +16,11 @@ ghost use Rattle.limit_rules.specs.Depths as depths;
 ghost use Rattle.limit_rules.specs.Private.Depths as own;
 
 use declared_graph::DeclaredGraph;
-use declared_names::has_fewer_dimensions;
 use plc_text::Code;
 use st_rules::when;
 use st_tree::{SimpleSpec, TypeSpec};
 use st_types::StType;
-use type_sizes::TypeSizes;
+use type_sizes::{TypeSizes, has_many_dimensions};
 
 /// Where a type is written.
 #[derive(Clone, Copy, Debug, PartialEq, Eq)]
@@ -46,14 +45,6 @@ fn is_endless(graph: &DeclaredGraph, spec: &TypeSpec<u32>) -> bool
         SimpleSpec::Elementary(_, _) => false,
         SimpleSpec::Reference(_, _, _) => false,
     }
-}
-
-/// Whether a type has more than 64 dimensions.
-#[tactic(auto, using(crate::proofs::DepthLaws::not_fewer))]
-fn has_many_dimensions(kind: &StType) -> bool
-    ensures { result ≡ limits.has_many_dimensions (Some kind.now) }
-{
-    !has_fewer_dimensions(kind, 65)
 }
 
 fn either(one: bool, other: bool) -> bool
@@ -86,6 +77,12 @@ fn told_has_more(sizes: &TypeSizes, within: Within, told: &Option<StType>) -> bo
     }
 }
 
+fn is_bad(deep: bool, endless: bool) -> bool
+    ensures { result ≡ (deep && not endless) }
+{
+    deep && !endless
+}
+
 /// E16 at the line, where a written type has too many steps of containment, or too many dimensions. `told` is what the type means, as
 /// the scope tells it. What contains itself has no depth.
 pub fn too_deep(
@@ -101,7 +98,7 @@ pub fn too_deep(
 {
     let deep = told_has_more(sizes, within, told);
     let endless = is_endless(graph, spec);
-    when(deep && !endless, Code::E16, line)
+    when(is_bad(deep, endless), Code::E16, line)
 }
 
 /// E16 at the line, where the structure of that number, which is declared at that place, has too many steps of containment.

@@ -1,6 +1,6 @@
 -- Declarations break no rule of the code E17.
 use Rattle.std.proofs.Common.{refl}
-use Rattle.std.specs.Prelude.{ℕ, List, [], ◌∷◌, ◌++◌, map, flat_map, filter, Option, Some, None}
+use Rattle.std.specs.Prelude.{ℕ, not, List, [], ◌∷◌, ◌++◌, map, flat_map, filter, Option, Some, None}
 use Rattle.plc_text.specs.declared.code.Code.TheVariants.{E04, E05, E07, E14, E15, E16}
 use Rattle.st_tree.specs.declared.configuration.Configuration.{Configuration}
 use Rattle.st_tree.specs.declared.declaration.ClassDecl.{ClassDecl}
@@ -22,7 +22,7 @@ use Rattle.st_tree.specs.Initial.{initial_of}
 use Rattle.st_tree.specs.Statement.{statements_of}
 use Rattle.st_rules.specs.Classes.{classes_in, methods_in}
 use Rattle.st_rules.specs.Interfaces.{interfaces_in}
-use Rattle.st_rules.specs.Scope.{Scope}
+use Rattle.st_rules.specs.Scope.{Scope, is_external}
 use Rattle.declared_names.specs.Declarations.{Declaration, an_entry, a_global, an_interface, a_class, a_function, a_program, a_configuration, Global, Region, Placed, declarations, configuration_globals, region_of_global, is_class, is_interface, is_entry, is_first_configuration, number_among, programs_in, heading_line}
 use Rattle.declared_names.specs.UnitNames.{class_scope, method_scope, function_scope, prototype_scope, program_scope}
 use Rattle.declared_names.specs.Variables.{sections_written, sections_in, is_kept_written, is_body_written}

@@ -57,7 +57,7 @@ module _ (s : Scope) where
       either _ (bound_to_another_type_usual s (line_of e) (matched_type m) t also if_broken _ E08 _ refl) (value_unsuited_usual s (line_of e) (asked_by m) t)
 
   mutual
-    faults_usual : (asked : Asked) (e : Expression ℕ) → Usual (faults s asked e)
+    pub faults_usual : (asked : Asked) (e : Expression ℕ) → Usual (faults s asked e)
     faults_usual asked (Int l digits) = int_faults_usual l digits (int_type asked digits)
     faults_usual asked (Typed l k literal) = typed_literal_faults_usual l k literal
     faults_usual asked (Time l text) = time_past_32_bits_usual l text

@@ -1,7 +1,7 @@
 -- Constant expressions and written types break no rule of the code E17.
 use Rattle.std.proofs.Common.{refl}
 use Rattle.std.specs.Prelude.{ℕ}
-use Rattle.plc_text.specs.declared.code.Code.TheVariants.{E05, E07, E13}
+use Rattle.plc_text.specs.declared.code.Code.TheVariants.{E05, E07, E13, E16}
 use Rattle.st_tree.specs.declared.type_spec.Bounds.{Bounds}
 use Rattle.st_tree.specs.declared.type_spec.SimpleSpec.{SimpleSpec}
 use Rattle.st_tree.specs.declared.type_spec.SimpleSpec.TheVariants as spec
@@ -11,10 +11,11 @@ use Rattle.st_rules.specs.declared.asked.Asked.{Asked}
 use Rattle.st_rules.specs.declared.asked.Asked.TheVariants.{Anything}
 use Rattle.st_rules.specs.Scope.{Scope}
 use Rattle.st_rules.specs.Expressions.{line_of, type_of}
-use Rattle.declared_names.specs.Constants.{constant_value, no_constant_part, no_constant_operand, no_constant_argument, zero_divisor, constant_faults, divides_by_zero, Outcome}
+use Rattle.declared_names.specs.Constants.{constant_value, no_constant_part, no_constant_operand, no_constant_argument, zero_divisor, value_faults, constant_faults, divides_by_zero, Outcome}
 use Rattle.declared_names.specs.WrittenTypes.{dimensions, bound_faults, dimension_faults, element_faults, type_faults}
 use Rattle.refusal_codes.proofs.FaultWords.{Usual, none, ◌also◌, broken, if_broken, either, of_each}
-use Rattle.refusal_codes.proofs.ExpressionCodes.{expression_faults_usual, index_unsuited_usual}
+use Rattle.refusal_codes.proofs.CallCodes.{value_unsuited_usual}
+use Rattle.refusal_codes.proofs.ExpressionCodes.{faults_usual, index_unsuited_usual}
 
 -- ---- constant expressions
 
@@ -45,9 +46,16 @@ module _ (s : Scope) where
   zero_divisor_usual (divides_by_zero l) = broken E13 _ refl
   zero_divisor_usual _ = none
 
+  value_faults_usual : (asked : Asked) (e : Expression ℕ) → Usual (value_faults s asked e)
+  value_faults_usual asked e =
+      faults_usual s asked e
+      also value_unsuited_usual s (line_of e) asked (type_of s asked e)
+      also no_constant_part_usual e
+      also zero_divisor_usual (constant_value s asked e)
+
   pub constant_faults_usual : (asked : Asked) (e : Expression ℕ) → Usual (constant_faults s asked e)
   unfolding constant_faults
-  constant_faults_usual asked e = expression_faults_usual s asked e also no_constant_part_usual e also zero_divisor_usual (constant_value s asked e)
+  constant_faults_usual asked e = value_faults_usual asked e also if_broken _ E16 _ refl
 
 -- ---- written types
 

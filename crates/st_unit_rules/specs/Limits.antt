@@ -154,11 +154,11 @@ module _ (s : Scope) where
   values_within zero t = 0
   values_within (suc n) t = level_values (values_within n) (out-StType t)
 
-  -- Nothing is counted of a type that cannot be told, nor of one that is too deep: it contains itself, or leads to what does, or breaks
-  -- the limit of steps.
+  -- Nothing is counted of a type that cannot be told, nor of one that is too deep or has too many dimensions: it contains itself, or leads
+  -- to what does, or breaks a limit by itself.
   unfoldable pub values_of : Option StType → ℕ
   values_of None = 0
-  values_of (Some t) = if is_too_deep t then 0 else values_within (suc (suc most_steps)) t
+  values_of (Some t) = if has_many_dimensions (Some t) || is_too_deep t then 0 else values_within (suc (suc most_steps)) t
 
   abbrev pub is_in_out : SectionSort → Bool
   is_in_out sort.InOut = true

@@ -1,7 +1,7 @@
 -- Sums, products and greatest numbers that are cut off, and tests of them.
 use Rattle.std.proofs.Common.{◌≡◌, ℕ, zero, suc, ◌+◌, ◌*◌, ◌<◌, ◌≤◌, true, sym, ap, ◌∙◌, arith, ◌⊎◌, inl, inr}
-use Rattle.std.specs.Prelude.{nat_lt, max, ◌||◌}
-use Rattle.std.proofs.lemmas.Bool.{lt-ltb, ltb-true}
+use Rattle.std.specs.Prelude.{nat_lt, max, ◌||◌, not}
+use Rattle.std.proofs.lemmas.Bool.{lt-ltb, le-ltb, ltb-true}
 use Rattle.st_rules.proofs.Booleans.{same-tests, or-first, or-second, either}
 use Rattle.type_sizes.specs.Size.{capped}
 
@@ -86,3 +86,6 @@ below_next n a l = same-tests _ _ (λ h. let p : n < a = ltb-true n a h in lt-lt
 
 pub first_below : (a : ℕ) → true ≡ nat_lt 0 (capped (a + 1))
 first_below a = sym (lt-ltb 0 (capped (a + 1)) (omega arith))
+
+pub not_fewer : (n : ℕ) → not (nat_lt n 65) ≡ nat_lt 64 n
+not_fewer n = elim (two n 64) [ inl p ↦ ap not (lt-ltb n 65 (omega arith)) ∙ sym (le-ltb 64 n p) | inr p ↦ ap not (le-ltb n 65 (omega arith)) ∙ sym (lt-ltb 64 n p) ]

@@ -10,7 +10,7 @@ use Rattle.st_types.specs.declared.st_type.StType.TheVariants as type
 use Rattle.st_types.specs.declared.st_type.StType.TheOpen.{StType-F}
 use Rattle.st_rules.specs.Scope.{Scope}
 use Rattle.st_unit_rules.specs.Worth.{count_to}
-use Rattle.st_unit_rules.specs.Limits.{contents, has_depth, is_composite, kinds_told, level_values, sum_of, values_of, values_within}
+use Rattle.st_unit_rules.specs.Limits.{contents, has_depth, is_composite, kinds_told, level_values, sum_of, has_many_dimensions, values_of, values_within}
 use Rattle.type_sizes.specs.declared.size.Size.{Size}
 use Rattle.type_sizes.specs.Size.{capped, nothing, simple, both, structure, instance, array}
 use Rattle.type_sizes.specs.Levels.{values_in, Tells, IsSize}
@@ -122,10 +122,15 @@ module _ (s : Scope) (r : ℕ) where
 pub zero_size : (s : Scope) (t : StType) → IsSize s 0 nothing t
 zero_size s t = record { values-are = refl; steps-are = λ n l m. absurd (omega arith) }
 
--- of a type that is not too deep
-pub values_counted : (s : Scope) (a : Size) (t : StType) (n : ℕ) → n ≡ (if nat_lt 65 a.steps then 0 else a.values) → IsSize s 66 a t → n ≡ capped (values_of s (Some t))
+-- of a type that is not too deep and has not too many dimensions
+pub values_counted : (s : Scope) (a : Size) (t : StType) (many : Bool) (n : ℕ) → many ≡ has_many_dimensions (Some t) → n ≡ (if many || nat_lt 65 a.steps then 0 else a.values) → IsSize s 66 a t
+    → n ≡ capped (values_of s (Some t))
 unfolding values_of
-values_counted s a t n e h = e ∙ ap (λ (b : Bool). if b then 0 else a.values) (sym (h.steps-are 65 (omega arith) (omega arith))) ∙ at (has_depth s 65 t)
+values_counted s a t many n d e h =
+    e
+    ∙ ap (λ (b : Bool). if b || nat_lt 65 a.steps then 0 else a.values) d
+    ∙ ap (λ (b : Bool). if has_many_dimensions (Some t) || b then 0 else a.values) (sym (h.steps-are 65 (omega arith) (omega arith)))
+    ∙ at (has_many_dimensions (Some t) || has_depth s 65 t)
   where
     at : (b : Bool) → (if b then 0 else a.values) ≡ capped (if b then 0 else values_within s 66 t)
     at true = refl

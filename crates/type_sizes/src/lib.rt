@@ -6,4 +6,4 @@ mod rounds;
 mod size;
 mod sizes;
 
-pub use sizes::TypeSizes;
+pub use sizes::{TypeSizes, has_many_dimensions};

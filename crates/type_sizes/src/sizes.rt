@@ -1,6 +1,6 @@
 //! Sizes of the types of a unit.
 
-ghost use Rattle.std.specs.Prelude.{◌≡◌, ◌<◌, nat_lt, if◌then◌else◌, length, IfOk};
+ghost use Rattle.std.specs.Prelude.{◌≡◌, ◌<◌, nat_lt, ◌||◌, if◌then◌else◌, length, Some, IfOk};
 ghost use Rattle.st_rules.specs.Classes.{classes_in};
 ghost use Rattle.st_rules.specs.Scope.{Scope};
 ghost use Rattle.st_unit_rules.specs.Limits as limits;
@@ -13,6 +13,7 @@ use crate::rounds::next_level;
 use crate::size::Size;
 use class_chains::ClassChains;
 use class_tables::ClassTables;
+use declared_names::has_fewer_dimensions;
 use plc_text::NoMemory;
 use st_rules::DeclaredNames;
 use st_tree::Unit;
@@ -28,11 +29,19 @@ pub struct TypeSizes {
     levels: Vec<Level>,
 }
 
-/// The values of a type, if it is not too deep.
-fn counted(size: Size) -> u32
-    ensures { result ≡ (if nat_lt 65 size.steps then 0 else size.values) }
+/// Whether a type has more than 64 dimensions.
+#[tactic(auto, using(crate::proofs::NumberLaws::not_fewer))]
+pub fn has_many_dimensions(kind: &StType) -> bool
+    ensures { result ≡ limits.has_many_dimensions (Some kind.now) }
 {
-    if size.steps > 65 {
+    !has_fewer_dimensions(kind, 65)
+}
+
+/// The values of a type of this size, which has too many dimensions or not, if it is not too deep either.
+fn counted(many: bool, size: Size) -> u32
+    ensures { result ≡ (if many || nat_lt 65 size.steps then 0 else size.values) }
+{
+    if many || size.steps > 65 {
         return 0;
     }
     size.values
@@ -70,12 +79,16 @@ impl TypeSizes {
         Ok(TypeSizes { levels })
     }
 
-    /// How many values a variable of the type has, or 2^32 - 1, if there are more; of a type that is too deep none are counted.
+    /// How many values a variable of the type has, or 2^32 - 1, if there are more; of a type that is too deep or has too many dimensions
+    /// none are counted.
     pub fn values_of(&self, kind: &Option<StType>) -> u32
         ensures { (s : Scope) → Measures self.now s → result ≡ capped (limits.values_of s kind.now) }
     {
         match kind {
-            Some(kind) => counted(size_of(&self.levels, STEPS, kind)),
+            Some(kind) => {
+                let many = has_many_dimensions(kind);
+                counted(many, size_of(&self.levels, STEPS, kind))
+            }
             None => 0,
         }
     }

@@ -2,7 +2,7 @@ use Rattle.entry_rules.proofs.BodyLaws.{alias_arm, enumeration_arm, structure_ar
 use Rattle.entry_rules.proofs.bodies.check_body.Goals as goal
 
 pub returns-in_ok-own-in-Alias : goal.returns-in_ok-own-in-Alias
-returns-in_ok-own-in-Alias c = alias_arm _ _ _ _ _ _ _ c.requires.unit _ _ _ _ _ c.in-Alias.is c.requires.sizes c.in_ok-found-in-Alias.ensures c.in_ok-own.ensures c.too_deep-depth.ensures c.alias_of.ensures
+returns-in_ok-own-in-Alias c = alias_arm _ _ _ _ _ _ _ c.requires.unit _ _ _ _ _ c.in-Alias.is c.requires.sizes c.in_ok-found-in-Alias.ensures c.in_ok-own-in-Alias.ensures c.too_deep-depth.ensures c.alias_of.ensures
 
 pub returns-in_ok-c-in-Enumeration : goal.returns-in_ok-c-in-Enumeration
 returns-in_ok-c-in-Enumeration c = enumeration_arm _ _ _ _ _ _ _ c.requires.unit _ _ c.in-Enumeration.is c.as_slice.ensures c.in_ok-c-in-Enumeration.ensures

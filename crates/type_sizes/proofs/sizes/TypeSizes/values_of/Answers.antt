@@ -10,7 +10,9 @@ pub returns-in-Some : goal.returns-in-Some
 returns-in-Some c = λ s m.
     let same = c.deref.ensures.value in
     let long : 66 ≤ length c.deref.result.now = (let e = ap length same in let l = m.long in omega (arith, e, l)) in
-    values_counted s c.size_of.result c.in-Some.kind c.counted.result c.counted.ensures (c.size_of.ensures s (subst (λ (ls : List Level). AreLevels s ls) (sym same) m.levels) long) ∙ ap (λ k. capped (values_of s k)) (sym c.in-Some.is)
+    values_counted s c.size_of.result c.in-Some.kind c.has_many_dimensions-many.result c.counted.result c.has_many_dimensions-many.ensures c.counted.ensures
+    (c.size_of.ensures s (subst (λ (ls : List Level). AreLevels s ls) (sym same) m.levels) long)
+    ∙ ap (λ k. capped (values_of s k)) (sym c.in-Some.is)
 
 pub returns-in-None : goal.returns-in-None
 unfolding values_of
