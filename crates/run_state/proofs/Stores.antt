@@ -106,9 +106,9 @@ unwind-push [] u s = refl
 unwind-push (x ∷ us) u s = ap (undone x) (unwind-push us u s)
 
 -- a value is kept
-pub kept : (whole : Option (List Member)) (us us' : List Undo) (q q' : Path) (old : CodeValue) (s : Store) → us' ≡ us ++ record { path = q'; old = old } ∷ [] → q' ≡ q
+pub added : (whole : Option (List Member)) (us us' : List Undo) (q q' : Path) (old : CodeValue) (s : Store) → us' ≡ us ++ record { path = q'; old = old } ∷ [] → q' ≡ q
     → or_whole whole (unwind us' s) ≡ or_whole whole (unwind us (undone (record { path = q; old = old }) s))
-kept whole us us' q q' old s e p =
+added whole us us' q q' old s e p =
     ap (or_whole whole) (ap (λ us. unwind us s) e ∙ unwind-push us (record { path = q'; old = old }) s ∙ ap (λ q. unwind us (undone (record { path = q; old = old }) s)) p)
 
 -- where the store is known as a whole, nothing is to be kept

@@ -13,24 +13,6 @@ use st_tree::Path;
 use std::alloc::Global;
 use value_trees::{Member, Value, copy_path, exchange_at};
 
-/// How many values are kept before the regions are counted for the first time.
-const FIRST_LIMIT: usize = 256;
-
-impl Log {
-    /// Nothing to be taken back.
-    pub fn new(alloc: Global) -> Log
-        ensures replaced { result.replaced ≡ [] }
-        ensures whole { result.whole ≡ None }
-    {
-        Log {
-            replaced: Series::new(alloc),
-            whole: None,
-            limit: FIRST_LIMIT,
-            room: FIRST_LIMIT,
-        }
-    }
-}
-
 /// What is left of a room behind a value, which takes one, and one more for each value in it.
 #[cycle(room)]
 fn room_behind(value: &Value, room: usize) -> usize

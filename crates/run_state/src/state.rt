@@ -1,6 +1,6 @@
 //! Regions, open calls and ticks.
 
-ghost use Rattle.std.specs.Prelude.{◌≡◌};
+ghost use Rattle.std.specs.Prelude.{◌≡◌, [], None};
 ghost use Rattle.st_meaning.specs.State as run;
 ghost use Rattle.run_state.specs.State.{Agrees, Keeps, base_of, state_of};
 ghost use Rattle.run_state.specs.declared.state.Stop.TheVariants as stop;
@@ -8,6 +8,7 @@ ghost use Rattle.run_state.specs.declared.state.Stop.TheVariants as stop;
 use plc_series::Series;
 use plc_text::{Fault, FaultKind, NoMemory};
 use st_tree::{Path, Steps};
+use std::alloc::Global;
 use value_trees::{Member, Value};
 
 /// Where a value stands: in a region, or in a local of an open call, the outermost call first.
@@ -51,6 +52,24 @@ pub struct Log {
     pub limit: usize,
     /// How many more of them that is.
     pub room: usize,
+}
+
+/// How many values are kept before the regions are counted for the first time.
+const FIRST_LIMIT: usize = 256;
+
+impl Log {
+    /// Nothing to be taken back.
+    pub fn new(alloc: Global) -> Log
+        ensures replaced { result.replaced ≡ [] }
+        ensures whole { result.whole ≡ None }
+    {
+        Log {
+            replaced: Series::new(alloc),
+            whole: None,
+            limit: FIRST_LIMIT,
+            room: FIRST_LIMIT,
+        }
+    }
 }
 
 /// The regions with their names, the open calls, the outermost first, the ticks left, the moment of the cycle, and what takes its writes

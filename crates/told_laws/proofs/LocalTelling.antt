@@ -22,7 +22,7 @@ use Rattle.told_laws.proofs.Tells.{routine-tells, members-tell, told-tells}
 use Rattle.told_laws.proofs.Next.{each-with, same-kind, variable-basis, Follows, routine-follows, members-follow, AnyKind, AnyTarget, routine-names, member-names, each-forgotten, forgotten-variable}
 use Rattle.told_laws.proofs.Rounds.{after, settles}
 use Rattle.told_laws.proofs.Settled.{tally, tally-append, tally-less, tally-back, both-of, untold_value, untold_variable, variable-less, variable-back, each-equal, variable-equal}
-use Rattle.told_laws.proofs.Telling.{changed-is, one-changed, told-variable, value-left, each-three, each-then, variable-then}
+use Rattle.told_laws.proofs.Telling.{changed-is, one-changed, both-changed, variable-step, told-variable, value-left, each-three, each-then, variable-then}
 
 -- ---- a scope whose other names stay
 
@@ -211,7 +211,20 @@ module _
         (subst (λ ws. NoLessOf ws (round vs)) settled (basis-next all vs (stays-below vs (left-basis vs h f) (suc most))))
 
     tells-all : TellsAll round (map forgotten (gives s)) all
-    tells-all = record { begun = begun; next = next-told; ended = ended; settled = settled }
+    tells-all = record {
+      begun = begun;
+      next = next-told;
+      round = λ vs h. record { kinds = tells-kinds (record s { locals = vs }); below = from-below vs h };
+      ended = ended;
+      settled = settled;
+    }
+
+-- what may be told of a local may be told whatever else is told
+pub again : (vs us all : List DeclaredVariable) (i : ℕ) (t : StType) (meant : Target) → SoundLocals us all → SoundLocals (with_local vs i t meant) all → SoundLocals (with_local us i t meant) all
+again vs us all i t meant h k = record {
+  kinds = one-changed TellsKind (variable_told t meant) (λ v e. λ f g. refl) i us h.kinds;
+  below = both-changed (AlikeVariable NoLess MeansNoLess) (variable_told t meant) (variable-step t meant) i us vs all h.below k.below;
+}
 
 -- ---- routines and programs
 

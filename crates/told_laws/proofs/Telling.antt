@@ -43,6 +43,27 @@ one-changed P f step i [] h = tt
 one-changed P f step zero (x ∷ xs) h = (step x h.0, h.1)
 one-changed P f step (suc i) (x ∷ xs) h = (h.0, one-changed P f step i xs h.1)
 
+-- what may be told of one may be told of another one
+module _ {X : Type 0} (R : X → X → Type 0) (f : X → X) (step : (x y u : X) → R x u → R (f y) u → R (f x) u) where
+  pub both-changed : (n : ℕ) (xs ys us : List X) → Each R xs us → Each R (changed_at f n ys) us → Each R (changed_at f n xs) us
+  both-changed n [] ys us h k = h
+  both-changed n (x ∷ xs) ys [] h k = absurd h
+  both-changed zero (x ∷ xs) [] (u ∷ us) h k = absurd k
+  both-changed zero (x ∷ xs) (y ∷ ys) (u ∷ us) h k = (step x y u h.0 k.0, h.1)
+  both-changed (suc n) (x ∷ xs) [] (u ∷ us) h k = absurd k
+  both-changed (suc n) (x ∷ xs) (y ∷ ys) (u ∷ us) h k = (h.0, both-changed n xs ys us h.1 k.1)
+
+pub variable-step : (k : StType) (m : Target) (x y u : DeclaredVariable) → AlikeVariable NoLess MeansNoLess x u → AlikeVariable NoLess MeansNoLess (variable_told k m y) u → AlikeVariable NoLess MeansNoLess (variable_told k m x) u
+variable-step k m x y u h t = record {
+  name = h.name;
+  sort = h.sort;
+  constant = h.constant;
+  access = h.access;
+  located_input = h.located_input;
+  kind = t.kind;
+  meant = subst (λ b. AlikeTarget NoLess MeansNoLess b m u.target) (t.constant ∙ sym h.constant) t.meant;
+}
+
 told-type : (d : DeclaredType) (t : StType) → d.kind ≡ Some t → (x u : DeclaredType) → AlikeType NoLess MeansNoLess x u → AlikeType NoLess MeansNoLess d u → AlikeType NoLess MeansNoLess (type_told t x) u
 told-type d t e x u h k = record { name = h.name; kind = tells d.kind u.kind t k.kind e }
 

@@ -25,6 +25,7 @@ pub record SoundLocals (vs all : List DeclaredVariable) : Type 0 where
 pub record TellsAll (gives : List DeclaredVariable → List DeclaredVariable) (first all : List DeclaredVariable) : Type 0 where
   pub begun : SoundLocals first all
   pub next : (vs : List DeclaredVariable) (i : ℕ) (v : DeclaredVariable) (t : StType) → SoundLocals vs all → slice_get (gives vs) i ≡ Some v → v.kind ≡ Some t → SoundLocals (with_local vs i t v.target) all
+  pub round : (vs : List DeclaredVariable) → SoundLocals vs all → SoundLocals (gives vs) all
   pub ended : (vs : List DeclaredVariable) → SoundLocals vs all → Each NoValueLeft vs (gives vs) → gives vs ≡ all
   pub settled : gives all ≡ all
 

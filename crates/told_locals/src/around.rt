@@ -10,9 +10,9 @@ ghost use Rattle.written_types.specs.Types.{TellsConstant};
 ghost use Rattle.told_locals.specs.Private.Telling.{scope_with};
 
 use class_tables::ClassTables;
-use declared_variables::iface_tables::IfaceTables;
 use declaration_list::WrittenName;
-use declared_variables::st_scope::{NameTables, Places, Scope};
+use declared_variables::iface_tables::IfaceTables;
+use declared_variables::st_scope::{NameTables, Places, Scope, local_places};
 use declared_variables::{declared_locals, declared_program};
 use plc_series::Series;
 use plc_text::NoMemory;
@@ -60,6 +60,23 @@ fn declared(
     }
 }
 
+/// The scope in which these locals are known.
+fn scope_over<'a>(around: &Around<'a>, known: &'a [DeclaredVariable], places: Places) -> Scope<'a>
+    requires around { IsAround around.now }
+    requires places { ArePlaces places known.now }
+    ensures { result ≡ scope_with around.now known.now }
+{
+    Scope::over(
+        around.names,
+        around.classes,
+        around.interfaces,
+        known,
+        places,
+        around.class,
+        around.in_method,
+    )
+}
+
 /// What is declared where these locals are known.
 pub fn declared_with(
     alloc: Global,
@@ -71,15 +88,8 @@ pub fn declared_with(
     requires kinds { Every TellsKind known.now }
     ensures { IfOk result (λ vs. vs ≡ declared_in of.now (scope_with around.now known.now)) }
 {
-    let s = Scope::within(
-        alloc,
-        around.names,
-        around.classes,
-        around.interfaces,
-        known,
-        around.class,
-        around.in_method,
-    )?;
+    let places = local_places(alloc, known)?;
+    let s = scope_over(around, known, places);
     let list = declared(alloc, &s, of)?;
     Ok(list)
 }
@@ -98,15 +108,7 @@ pub fn found_with(
     ensures told { IfOk result (λ r. TellsConstant r.0 (scope_with around.now known.now) (written_of name.now)) }
     ensures places { IfOk result (λ r. ArePlaces r.1 known.now) }
 {
-    let s = Scope::over(
-        around.names,
-        around.classes,
-        around.interfaces,
-        known,
-        places,
-        around.class,
-        around.in_method,
-    );
+    let s = scope_over(around, known, places);
     let found = constant_of(alloc, &s, name)?;
     Ok((found, s.into_places()))
 }

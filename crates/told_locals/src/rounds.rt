@@ -1,15 +1,18 @@
 //! All that can be told of the locals of a routine or a program.
 
-ghost use Rattle.std.specs.Prelude.{◌≡◌, map, IfOk};
+ghost use Rattle.std.specs.Prelude.{◌≡◌, true, map, IfOk};
 ghost use Rattle.declared_names.specs.UnitNames as unit_names;
 ghost use Rattle.declared_names.specs.UnitNames.{forgotten};
-ghost use Rattle.declared_names.specs.Variables.{sections_written};
-ghost use Rattle.declaration_list.specs.Written.{written_of};
+ghost use Rattle.declared_names.specs.Constants as constants;
+ghost use Rattle.declaration_list.specs.Written.{global_of, names_in_sections};
+ghost use Rattle.told_laws.specs.LocalLaws.{SoundLocals};
+ghost use Rattle.told_laws.specs.TellingLaws.{NoValueLeft};
+ghost use Rattle.told_laws.specs.ToldLaws.{Each};
 ghost use Rattle.told_locals.specs.Around.{IsAround, all_told, scope_around, sections_of};
-ghost use Rattle.told_locals.specs.Private.Telling.{IsTold};
+ghost use Rattle.told_locals.specs.Private.Telling.{IsTold, is_left};
 
 use crate::around::{Around, Declaring, declared_with};
-use crate::telling::{Told, pass, tell_each};
+use crate::telling::{Told, tell_each};
 use declaration_list::{WrittenName, written_names};
 use declared_variables::st_scope::local_places;
 use plc_series::Series;
@@ -75,18 +78,111 @@ fn untold(alloc: Global, around: &Around<'_>, of: &Declaring<'_>) -> Result<Told
     Ok(Told { known, places })
 }
 
-/// The places of names, each behind those that it needs, where that can be. Nothing is said of the order, since no answer depends on it.
+/// The places of the items that declare constants, each behind those that it needs, where that can be. Nothing is said of the order, since
+/// no answer depends on it.
 fn order_of(alloc: Global, names: &[WrittenName<'_>]) -> Result<Vec<usize>, NoMemory> {
     let mut groups = Vec::new(alloc);
-    for name in names {
-        groups.push(Group::Globals(0, *name))?;
+    let mut places: Vec<usize> = Vec::new(alloc);
+    for (place, name) in names.iter().enumerate() {
+        if name.first && name.is_constant() {
+            groups.push(Group::Globals(0, *name))?;
+            places.push(place)?;
+        }
     }
-    order_of_need(alloc, &groups)
+    let needed = order_of_need(alloc, &groups)?;
+    let mut order = Vec::new(alloc);
+    for group in &needed {
+        match places.get(*group) {
+            Some(place) => order.push(*place)?,
+            None => {}
+        }
+    }
+    Ok(order)
+}
+
+/// The locals with what can be told of constants in an order of need.
+fn told_in_order(
+    alloc: Global,
+    around: &Around<'_>,
+    of: &Declaring<'_>,
+    names: &[WrittenName<'_>],
+) -> Result<Series<DeclaredVariable>, NoMemory>
+    requires around { IsAround around.now }
+    requires names { map global_of names.now ≡ names_in_sections (sections_of of.now) }
+    ensures { IfOk result (λ vs. SoundLocals vs (all_told of.now (scope_around around.now))) }
+{
+    let order = order_of(alloc, names)?;
+    let first = untold(alloc, around, of)?;
+    let told = tell_each(alloc, around, of, names, first, &order)?;
+    Ok(told.known)
+}
+
+fn is_told(target: Target) -> bool
+    ensures { result ≡ constants.is_told target }
+{
+    match target {
+        Target::Constant(_) => true,
+        Target::Enumerator(_) => true,
+        Target::Nothing => false,
+        Target::Local(_) => false,
+        Target::Variable(_) => false,
+        Target::Field(_) => false,
+        Target::Region(_) => false,
+        Target::Function(_) => false,
+        Target::Method(_) => false,
+        Target::Conversion => false,
+        Target::Parameter(_) => false,
+    }
+}
+
+/// Whether the value of a constant is told in the second alone.
+fn is_left(known: &DeclaredVariable, next: &DeclaredVariable) -> bool
+    ensures { result ≡ is_left known.now next.now }
+{
+    next.constant && is_told(next.target) && !is_told(known.target)
+}
+
+/// Whether the second tells no value that the first does not tell.
+fn nothing_left(known: &[DeclaredVariable], next: &[DeclaredVariable]) -> bool
+    ensures { result ≡ true → Each NoValueLeft known.now next.now }
+{
+    if known.len() != next.len() {
+        return false;
+    }
+    for (i, variable) in known.iter().enumerate() {
+        if is_left(variable, &next[i]) {
+            return false;
+        }
+    }
+    true
+}
+
+/// What is told in so many rounds, where the last of them tells no value more than the one before.
+fn settle(
+    alloc: Global,
+    around: &Around<'_>,
+    of: &Declaring<'_>,
+    first: Series<DeclaredVariable>,
+    most: usize,
+) -> Result<Series<DeclaredVariable>, NoMemory>
+    requires around { IsAround around.now }
+    requires sound { SoundLocals first (all_told of.now (scope_around around.now)) }
+    ensures { IfOk result (λ vs. vs ≡ all_told of.now (scope_around around.now)) }
+{
+    let mut known = first;
+    for _round in 0..most {
+        let next = declared_with(alloc, around, of, known.as_slice())?;
+        if nothing_left(known.as_slice(), next.as_slice()) {
+            return Ok(next);
+        }
+        known = next;
+    }
+    Err(NoMemory)
 }
 
 /// The locals of a routine, its result first, or of a program, with all that can be told of them. The constants are told in an order of need,
-/// so that each is evaluated once where the order is right, and then whatever is left, until nothing more can be told; so it takes time
-/// linear in the text but where constants need themselves or names are declared twice.
+/// each item evaluated once, and then all in rounds until one tells nothing more; so it takes time linear in the text where the order is right,
+/// which it is but where constants need themselves or names are declared twice.
 pub fn told_locals(
     alloc: Global,
     around: &Around<'_>,
@@ -96,16 +192,7 @@ pub fn told_locals(
     ensures { IfOk result (λ vs. vs ≡ all_told of.now (scope_around around.now)) }
 {
     let names = written_names(alloc, sections_of(of))?;
-    let order = order_of(alloc, &names)?;
-    let first = untold(alloc, around, of)?;
-    let mut told = tell_each(alloc, around, of, &names, first, &order)?;
-    // each round but the last tells one constant more at least
-    for _round in 0..=names.len() {
-        let (next, any) = pass(alloc, around, of, &names, told)?;
-        if !any {
-            return declared_with(alloc, around, of, next.known.as_slice());
-        }
-        told = next;
-    }
-    Err(NoMemory)
+    let known = told_in_order(alloc, around, of, &names)?;
+    // each round but the last tells one value more at least
+    settle(alloc, around, of, known, names.len().saturating_add(1))
 }

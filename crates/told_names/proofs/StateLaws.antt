@@ -7,18 +7,17 @@ use Rattle.st_tree.specs.declared.declaration.ClassDecl.{ClassDecl}
 use Rattle.st_tree.specs.declared.program.Target.{Target}
 use Rattle.st_tree.specs.declared.program.Target.TheVariants as target
 use Rattle.st_tree.specs.declared.unit.Decl.{Decl}
-use Rattle.st_rules.specs.declared.names.DeclaredVariable.{DeclaredVariable}
 use Rattle.st_rules.specs.declared.names.DeclaredClass.{DeclaredClass}
 use Rattle.st_rules.specs.declared.names.DeclaredType.{DeclaredType}
 use Rattle.st_rules.specs.declared.names.DeclaredGlobal.{DeclaredGlobal}
 use Rattle.st_rules.specs.declared.names.DeclaredGlobal.TheVariants as global
 use Rattle.st_rules.specs.declared.names.DeclaredNames.{DeclaredNames}
 use Rattle.st_rules.specs.Classes.{classes_in}
-use Rattle.st_rules.specs.Telling.{changed_at, type_told, variable_told, global_told, member_told, with_type, with_global, with_member}
+use Rattle.st_rules.specs.Telling.{type_told, variable_told, global_told, member_told, with_type, with_global, with_member}
 use Rattle.st_scope.specs.Tables.{Told, Knows}
-use Rattle.told_laws.specs.ToldLaws.{Each, Every, NoLess, MeansNoLess, AlikeTarget, AlikeVariable, AlikeClass, AlikeType, AlikeGlobal, TellsKind, TellsGlobalKind}
+use Rattle.told_laws.specs.ToldLaws.{Every, NoLess, MeansNoLess, AlikeVariable, AlikeClass, AlikeType, AlikeGlobal, TellsKind, TellsGlobalKind}
 use Rattle.told_laws.specs.TellingLaws.{Sound}
-use Rattle.told_laws.proofs.Telling.{telling_laws}
+use Rattle.told_laws.proofs.Telling.{telling_laws, one-changed, both-changed, variable-step}
 use Rattle.declared_names.specs.UnitNames.{names_told}
 use Rattle.telling_groups.specs.Jobs.{Job, of_entry, of_interface, of_class, of_global, of_member, jobs_in, is_told_of, with_job, Tells}
 use Rattle.telling_groups.proofs.JobLaws.{job-laws}
@@ -28,33 +27,8 @@ use Rattle.told_names.specs.Private.State.{Untellable, Tellable, Finds, with_job
 
 -- ---- what may be told from one state may be told in another one
 
-module _ {X : Type 0} (R : X → X → Type 0) (f : X → X) (step : (x y u : X) → R x u → R (f y) u → R (f x) u) where
-  both-changed : (n : ℕ) (xs ys us : List X) → Each R xs us → Each R (changed_at f n ys) us → Each R (changed_at f n xs) us
-  both-changed n [] ys us h k = h
-  both-changed n (x ∷ xs) ys [] h k = absurd h
-  both-changed zero (x ∷ xs) [] (u ∷ us) h k = absurd k
-  both-changed zero (x ∷ xs) (y ∷ ys) (u ∷ us) h k = (step x y u h.0 k.0, h.1)
-  both-changed (suc n) (x ∷ xs) [] (u ∷ us) h k = absurd k
-  both-changed (suc n) (x ∷ xs) (y ∷ ys) (u ∷ us) h k = (h.0, both-changed n xs ys us h.1 k.1)
-
-every-changed : {X : Type 0} (P : X → Type 0) (f : X → X) → ((x : X) → P x → P (f x)) → (n : ℕ) (xs : List X) → Every P xs → Every P (changed_at f n xs)
-every-changed P f step n [] h = h
-every-changed P f step zero (x ∷ xs) h = (step x h.0, h.1)
-every-changed P f step (suc n) (x ∷ xs) h = (h.0, every-changed P f step n xs h.1)
-
 type-step : (k : StType) (x y u : DeclaredType) → AlikeType NoLess MeansNoLess x u → AlikeType NoLess MeansNoLess (type_told k y) u → AlikeType NoLess MeansNoLess (type_told k x) u
 type-step k x y u h t = record { name = h.name; kind = t.kind }
-
-variable-step : (k : StType) (m : Target) (x y u : DeclaredVariable) → AlikeVariable NoLess MeansNoLess x u → AlikeVariable NoLess MeansNoLess (variable_told k m y) u → AlikeVariable NoLess MeansNoLess (variable_told k m x) u
-variable-step k m x y u h t = record {
-  name = h.name;
-  sort = h.sort;
-  constant = h.constant;
-  access = h.access;
-  located_input = h.located_input;
-  kind = t.kind;
-  meant = subst (λ b. AlikeTarget NoLess MeansNoLess b m u.target) (t.constant ∙ sym h.constant) t.meant;
-}
 
 global-step : (k : StType) (m : Target) (x y u : DeclaredGlobal) → AlikeGlobal NoLess MeansNoLess x u → AlikeGlobal NoLess MeansNoLess (global_told k m y) u → AlikeGlobal NoLess MeansNoLess (global_told k m x) u
 global-step k m (global.Variable x) (global.Variable y) (global.Variable u) h t = variable-step k m x y u h t
@@ -88,7 +62,7 @@ module _ (decls : List (Decl ℕ)) where
 
   global-again : (a b : DeclaredNames) (n : ℕ) (k : StType) (m : Target) → Sound decls b → Sound decls (with_global a n k m) → Sound decls (with_global b n k m)
   global-again a b n k m s t = record {
-    kinds = record { classes = (s.kinds).classes; globals = every-changed TellsGlobalKind (global_told k m) (tells-global k m) n b.globals (s.kinds).globals };
+    kinds = record { classes = (s.kinds).classes; globals = one-changed TellsGlobalKind (global_told k m) (tells-global k m) n b.globals (s.kinds).globals };
     below = record {
       types = (s.below).types;
       parts = (s.below).parts;
@@ -101,7 +75,7 @@ module _ (decls : List (Decl ℕ)) where
   member-again : (a b : DeclaredNames) (c i : ℕ) (k : StType) (m : Target) → Sound decls b → Sound decls (with_member a c i k m) → Sound decls (with_member b c i k m)
   member-again a b c i k m s t = record {
     kinds = record {
-      classes = every-changed (λ x. Every TellsKind x.variables) (member_told i k m) (λ x h. every-changed TellsKind (variable_told k m) (λ v e. λ f g. refl) i x.variables h) c b.classes (s.kinds).classes;
+      classes = one-changed (λ x. Every TellsKind x.variables) (member_told i k m) (λ x h. one-changed TellsKind (variable_told k m) (λ v e. λ f g. refl) i x.variables h) c b.classes (s.kinds).classes;
       globals = (s.kinds).globals;
     };
     below = record {

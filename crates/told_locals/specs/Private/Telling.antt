@@ -1,16 +1,17 @@
 -- The constants among locals, told one by one.
-use Rattle.std.specs.Prelude.{◌≡◌, ℕ, ◌+◌, ◌<◌, Bool, true, false, List, Option, Some, None, slice_get}
-use Rattle.std.specs.Option.{is_some}
+use Rattle.std.specs.Prelude.{◌≡◌, ℕ, suc, ℤ, Bool, ◌&&◌, not, if◌then◌else◌, List, [], ◌∷◌, Option, Some, None}
+use Rattle.st_types.specs.declared.st_type.StType.{StType}
+use Rattle.st_tree.specs.declared.program.Target.TheVariants as target
 use Rattle.st_rules.specs.declared.names.DeclaredVariable.{DeclaredVariable}
 use Rattle.st_rules.specs.Scope.{Scope}
-use Rattle.declared_names.specs.Variables.{Written, sections_written, constant_of}
-use Rattle.told_laws.specs.LocalLaws.{SoundLocals}
-use Rattle.told_places.specs.PlaceLaws.{is_value}
+use Rattle.declared_names.specs.Constants.{is_told}
+use Rattle.declaration_list.specs.declared.written.WrittenName.{WrittenName}
+use Rattle.told_laws.specs.LocalLaws.{with_local, SoundLocals}
 use Rattle.told_locals.specs.declared.around.Around.{Around}
 use Rattle.told_locals.specs.declared.around.Declaring.{Declaring}
 use Rattle.told_locals.specs.declared.around.Declaring.TheVariants as code
 use Rattle.told_locals.specs.declared.telling.Told.{Told}
-use Rattle.told_locals.specs.Around.{scope_around, sections_of, all_told}
+use Rattle.told_locals.specs.Around.{scope_around, all_told}
 use Rattle.st_scope.specs.Locals.{ArePlaces}
 
 -- the scope with these locals
@@ -31,18 +32,11 @@ pub record IsTold (a : Around) (d : Declaring) (t : Told) : Type 0 where
   pub sound : SoundLocals t.known (all_told d (scope_around a))
   pub places : ArePlaces t.places t.known
 
--- what can be told of the constant at a place is told
-abbrev pub DoneAt : Around → Declaring → List DeclaredVariable → ℕ → Type 0
-DoneAt a d vs p =
-    (w : Written) → slice_get (sections_written (sections_of d)) p ≡ Some w → w.constant ≡ true → is_some (constant_of (scope_with a vs) w) ≡ true
-    → is_value (slice_get vs (first_of d + p)) ≡ true
+-- this is told of local n and those behind it, as long as their names belong to the item of the one before
+abbrev pub told_behind : List DeclaredVariable → ℕ → List WrittenName → StType → ℤ → List DeclaredVariable
+told_behind vs n [] k z = vs
+told_behind vs n (w ∷ ws) k z = if w.first then vs else told_behind (with_local vs n k (target.Constant z)) (suc n) ws k z
 
-pub record Visits (a : Around) (d : Declaring) (p : ℕ) (old new : Told) (any : Bool) : Type 0 where
-  pub told : IsTold a d new
-  pub same : any ≡ false → new.known ≡ old.known
-  pub done : any ≡ false → DoneAt a d old.known p
-
-pub record Passes (a : Around) (d : Declaring) (old new : Told) (any : Bool) (n : ℕ) : Type 0 where
-  pub told : IsTold a d new
-  pub same : any ≡ false → new.known ≡ old.known
-  pub done : any ≡ false → (p : ℕ) → p < n → DoneAt a d old.known p
+-- the value of a constant is told in the second alone
+abbrev pub is_left : DeclaredVariable → DeclaredVariable → Bool
+is_left v w = w.constant && is_told w.target && not (is_told v.target)

@@ -1,5 +1,7 @@
-use Rattle.told_locals.proofs.RoundLaws.{around-values}
+use Rattle.std.proofs.Common.{ap, ◌∙◌}
+use Rattle.told_locals.specs.Around.{declared_in}
+use Rattle.told_locals.proofs.TellingLaws.{around-values}
 use Rattle.told_locals.proofs.around.declared_with.Goals as goal
 
 pub declared-requires : goal.declared-requires
-declared-requires c = around-values c.args.around.now c.args.known.now c.in_ok-s.s c.requires.around c.requires.kinds c.in_ok-s.ensures
+declared-requires c = around-values c.args.around.now c.args.known.now c.scope_over-s.result c.requires.around c.requires.kinds c.scope_over-s.ensures
