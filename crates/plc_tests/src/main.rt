@@ -7,6 +7,7 @@ mod code;
 mod journals;
 mod layout;
 mod machine;
+mod plant;
 mod streams;
 
 use plc_text::{NoMemory, Text, split_field};
@@ -21,6 +22,7 @@ fn tell(alloc: Global, told: &mut Text, text: &str, line: &str) -> Result<(), No
         "copy" => streams::tell_copy(alloc, told, text, words),
         "journal" => journals::tell(alloc, told, text, words),
         "load" => journals::tell_load(alloc, told, words),
+        "core" => plant::tell(alloc, told, text, words),
         "valid" | "list" | "run" | "hook" => machine::tell(alloc, told, text, question, words),
         _ => layout::tell(alloc, told, text, question, words),
     }

@@ -1,0 +1,2 @@
+mod PlantLaws
+mod PlantInputs
