@@ -13,7 +13,6 @@ use plc_text::{NoMemory, Text};
 use source_check::check_source;
 use st_tree::{Path, Program, Step, Steps};
 use std::alloc::Global;
-use std::mem::forget;
 
 fn push_numbers(told: &mut Text, numbers: &[u32]) -> Result<(), NoMemory> {
     if numbers.is_empty() {
@@ -106,8 +105,8 @@ fn tell_size(
     }
 }
 
-/// Adds the bytes of a region.
-fn push_image(told: &mut Text, images: &Regions, region: u32) -> Result<(), NoMemory> {
+/// Adds the bytes with which a region begins.
+fn tell_image(told: &mut Text, images: &Regions, region: u32) -> Result<(), NoMemory> {
     if region >= images.len() {
         return told.push_str("none");
     }
@@ -115,18 +114,6 @@ fn push_image(told: &mut Text, images: &Regions, region: u32) -> Result<(), NoMe
         Some(image) => told.push_hex(image.part(0, image.len())),
         None => told.push_str("none"),
     }
-}
-
-/// Adds the bytes with which a region begins.
-fn tell_image(
-    alloc: Global,
-    told: &mut Text,
-    layout: &Layout,
-    program: &Program,
-    region: u32,
-) -> Result<(), NoMemory> {
-    let images = initial_images(alloc, layout, program)?;
-    push_image(told, &images, region)
 }
 
 fn tell_of(
@@ -142,7 +129,10 @@ fn tell_of(
         "place" => tell_place(alloc, told, &layout, words),
         "at" => push_beginning(alloc, told, &layout, At { region, offset }),
         "size" => tell_size(told, &layout, program, region),
-        _ => tell_image(alloc, told, &layout, program, region),
+        _ => {
+            let images = initial_images(alloc, &layout, program)?;
+            tell_image(told, &images, region)
+        }
     }
 }
 
@@ -177,12 +167,7 @@ pub fn tell(
     words: &str,
 ) -> Result<(), NoMemory> {
     match check_source(alloc, text) {
-        Ok(program) => {
-            let answer = tell_program(alloc, told, &program, question, words);
-            // (the memory goes with the process, which ends soon)
-            forget(program);
-            answer
-        }
+        Ok(program) => tell_program(alloc, told, &program, question, words),
         Err(_) => told.push_str("refused"),
     }
 }
