@@ -30,9 +30,9 @@ module _ (text : List ℕ) where
   NoneBehind start n = (further : ℕ) → n < further → further ≤ length text → fits start further ≡ false
 
   none_more : (start n : ℕ) → fits start (suc n) ≡ false → NoneBehind start (suc n) → NoneBehind start n
-  none_more start n no none further less within = elim (cases_lt (suc n) further) [
+  none_more start n unfit none further less within = elim (cases_lt (suc n) further) [
     | inl behind ↦ none further behind within
-    | inr from ↦ let same : suc n ≡ further = omega arith in subst (λ k. fits start k ≡ false) same no
+    | inr from ↦ let same : suc n ≡ further = omega arith in subst (λ k. fits start k ≡ false) same unfit
   ]
 
   -- the longest piece from here that ends at n or before, or there is none
@@ -40,8 +40,8 @@ module _ (text : List ℕ) where
   longest start zero le none = inr (λ end some within. none end (omega arith) within)
   longest start (suc n) le none = elim (cases_lt start (suc n)) [
     | inl more ↦ elim (cases_Bool (fits start (suc n))) [
-      | inl yes ↦ inl (suc n, record { some = more; within = le; fits = yes; longest = none })
-      | inr no ↦ longest start n (omega arith) (none_more start n no none)
+      | inl fit ↦ inl (suc n, record { some = more; within = le; fits = fit; longest = none })
+      | inr unfit ↦ longest start n (omega arith) (none_more start n unfit none)
     ]
     | inr from ↦ inr (λ end some within. none end (omega arith) within)
   ]
@@ -52,20 +52,20 @@ module _ (text : List ℕ) where
   abbrev Broken : ℕ → Type 0
   Broken start = (ends : List ℕ) × (place : ℕ) × IsChain text start ends place × IsBad text place
 
-  chained : (left start : ℕ) → start ≤ length text → length text ≤ start + left → Chained start ⊎ Broken start
-  behind : (left start : ℕ) → start < length text → length text ≤ start + suc left → ((end : ℕ) × IsPiece text start end) ⊎ NoneBehind start start → Chained start ⊎ Broken start
-
-  chained zero start le most = inl ([], omega arith)
-  chained (suc left) start le most = elim (cases_lt start (length text)) [
-    | inl less ↦ behind left start less most (longest start (length text) (omega arith) (λ further more within. absurd (omega arith)))
-    | inr from ↦ inl ([], omega arith)
-  ]
-
-  behind left start less most (inl piece) = elim (chained left piece.0 piece.1.within (omega (arith, piece.1.some, most))) [
+  -- the longest piece from here, and what stands behind it
+  behind : (start : ℕ) → start < length text → ((end : ℕ) → start < end → end ≤ length text → Chained end ⊎ Broken end) → ((end : ℕ) × IsPiece text start end) ⊎ NoneBehind start start → Chained start ⊎ Broken start
+  behind start less onward (inl piece) = elim (onward piece.0 piece.1.some piece.1.within) [
     | inl whole ↦ inl (piece.0 ∷ whole.0, (piece.1, whole.1))
     | inr bad ↦ inr (piece.0 ∷ bad.0, bad.1, (piece.1, bad.2), bad.3)
   ]
-  behind left start less most (inr none) = inr ([], start, refl, record { within = less; no-piece = none })
+  behind start less onward (inr none) = inr ([], start, refl, record { within = less; no-piece = none })
+
+  chained : (left start : ℕ) → start ≤ length text → length text ≤ start + left → Chained start ⊎ Broken start
+  chained zero start le most = inl ([], omega arith)
+  chained (suc left) start le most = elim (cases_lt start (length text)) [
+    | inl less ↦ behind start less (λ end some within. chained left end within (omega arith)) (longest start (length text) (omega arith) (λ further more within. absurd (omega arith)))
+    | inr from ↦ inl ([], omega arith)
+  ]
 
 -- ---- units
 
@@ -88,8 +88,8 @@ module _ (prelude text : List ℕ) (blocks : ProgramText) (read : IsPrelude prel
 
     parsed : IsAnswered (lexemes ts) → Decided
     parsed (inl unit) = judged unit.0 unit.1
-    parsed (inr (inl no)) =
-        inr (code.E02, declaration_of no.0 (lexemes ts), line_at text (lexemes ts) no.0, no_unit short ts tokens (record { place = no.0; refused = no.1; declaration-is = refl; line-is = refl }))
+    parsed (inr (inl stop)) =
+        inr (code.E02, declaration_of stop.0 (lexemes ts), line_at text (lexemes ts) stop.0, no_unit short ts tokens (record { place = stop.0; refused = stop.1; declaration-is = refl; line-is = refl }))
     parsed (inr (inr deep)) =
         inr (code.E03, declaration_of deep.0 (lexemes ts), line_at text (lexemes ts) deep.0, no_unit short ts tokens (record { place = deep.0; refused = deep.1; declaration-is = refl; line-is = refl }))
 
