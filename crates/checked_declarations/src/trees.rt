@@ -7,30 +7,13 @@ use st_tree::{ClassDecl, FunctionDecl, InterfaceDecl, Note, ProgramDecl, TypeDec
 use std::alloc::Global;
 
 /// The typed trees of declarations, of each sort in the order of the text.
+#[derive(Drop)]
 pub struct Trees {
     pub types: Items<TypeDecl<Note>>,
     pub classes: Items<ClassDecl<Note>>,
     pub interfaces: Items<InterfaceDecl<Note>>,
     pub functions: Items<FunctionDecl<Note>>,
     pub programs: Items<ProgramDecl<Note>>,
-}
-
-// By hand, so that a drop is one call: a derived one is written out wherever a `?` may need it, and a proof goes over each part.
-impl Drop for Trees {
-    fn drop(self) {
-        let Trees {
-            types,
-            classes,
-            interfaces,
-            functions,
-            programs,
-        } = self;
-        drop(types);
-        drop(classes);
-        drop(interfaces);
-        drop(functions);
-        drop(programs);
-    }
 }
 
 impl Trees {

@@ -25,25 +25,12 @@ pub struct CheckedClass {
 }
 
 /// What stands before the base of a class.
+#[derive(Drop)]
 pub struct Heading {
     line: u32,
     sort: ClassSort,
     modifiers: Items<Modifier>,
     name: Name,
-}
-
-impl Drop for Heading {
-    fn drop(self) {
-        let Heading {
-            line: _,
-            sort,
-            modifiers,
-            name,
-        } = self;
-        drop(sort);
-        drop(modifiers);
-        drop(name);
-    }
 }
 
 /// What a class breaks besides its base, its interfaces, its members and its body.
@@ -63,27 +50,12 @@ pub struct Broken {
 }
 
 /// What is found out about the trees in a class.
+#[derive(Drop)]
 pub struct Trees {
     pub base: CheckedBase,
     pub interfaces: CheckedInterfaces,
     pub members: CheckedMembers,
     pub body: FoundBody,
-}
-
-// By hand, so that a drop is one call: a derived one is written out wherever a `?` may need it, and a proof goes over each part.
-impl Drop for Trees {
-    fn drop(self) {
-        let Trees {
-            base,
-            interfaces,
-            members,
-            body,
-        } = self;
-        drop(base);
-        drop(interfaces);
-        drop(members);
-        drop(body);
-    }
 }
 
 /// What its sections belong to.

@@ -24,6 +24,7 @@ use st_types::StType;
 use std::alloc::Global;
 
 /// What is found out about an expression where a constant is wanted.
+#[derive(Drop)]
 pub struct Constant {
     /// None where it cannot be told.
     pub told: Option<StType>,
@@ -33,24 +34,6 @@ pub struct Constant {
     pub value: Outcome,
     /// The number that it comes to, where no rule is broken but the limit of operators.
     pub number: Option<i128>,
-}
-
-// By hand, so that a drop is one call: a derived one is written out wherever a `?` may need it, and a proof goes over each part.
-impl Drop for Constant {
-    fn drop(self) {
-        let Constant {
-            told,
-            least,
-            tree,
-            value,
-            number,
-        } = self;
-        drop(told);
-        drop(least);
-        drop(tree);
-        drop(value);
-        drop(number);
-    }
 }
 
 /// E13 where a zero divisor ends the value.

@@ -18,6 +18,7 @@ use st_tree::{Note, Section, Stmt, TypeSpec};
 use std::alloc::Global;
 
 /// What is found out about a function or a method.
+#[derive(Drop)]
 pub struct CheckedRoutine {
     /// The least rule that is broken, with its least line.
     pub least: Option<(Code, u32)>,
@@ -25,22 +26,6 @@ pub struct CheckedRoutine {
     pub sections: Items<Section<Note>>,
     /// Where no rule is broken.
     pub body: Items<Stmt<Note>>,
-}
-
-// By hand, so that a drop is one call: a derived one is written out wherever a `?` may need it, and a proof goes over each part.
-impl Drop for CheckedRoutine {
-    fn drop(self) {
-        let CheckedRoutine {
-            least,
-            result,
-            sections,
-            body,
-        } = self;
-        drop(least);
-        drop(result);
-        drop(sections);
-        drop(body);
-    }
 }
 
 fn routine_of(

@@ -19,6 +19,7 @@ const CHANGE_LIMIT: u32 = 256;
 const TASK_LIMIT: usize = 32;
 
 /// Plays and phases, within the limits of a scenario.
+#[derive(Drop)]
 pub struct Played {
     pub plays: Items<Play>,
     /// The phases that have ended.
@@ -31,23 +32,6 @@ pub struct Played {
     changes: u32,
     /// The tasks that the plays name, each once.
     tasks: Items<Text>,
-}
-
-// By hand, so that a drop is one call: a derived one is written out wherever a `?` may need it, and a proof goes over each part.
-impl Drop for Played {
-    fn drop(self) {
-        let Played {
-            plays,
-            phases,
-            first: _,
-            next: _,
-            changes: _,
-            tasks,
-        } = self;
-        drop(plays);
-        drop(phases);
-        drop(tasks);
-    }
 }
 
 impl Played {

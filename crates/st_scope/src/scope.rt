@@ -135,7 +135,9 @@ impl<'a> Scope<'a> {
         ensures { IfOk result (λ s. s ≡ record { classes = classes_in classes.now.decls; interfaces = interfaces_in classes.now.decls; names = names.now.names; class = class; in_method = in_method; locals = locals.now }) }
     {
         let places = local_places(alloc, locals)?;
-        Ok(Scope::over(names, classes, interfaces, locals, places, class, in_method))
+        Ok(Scope::over(
+            names, classes, interfaces, locals, places, class, in_method,
+        ))
     }
 
     /// The same scope, where it is known where the names of the locals stand.

@@ -38,26 +38,12 @@ pub struct Shared {
 }
 
 /// Enumerations and structures.
+#[derive(Drop)]
 pub struct Parted {
     pub first: Numbers,
     pub last: Numbers,
     pub values: Vec<Numbers>,
     pub fields: Vec<Numbers>,
-}
-
-impl Drop for Parted {
-    fn drop(self) {
-        let Parted {
-            first,
-            last,
-            values,
-            fields,
-        } = self;
-        drop(first);
-        drop(last);
-        drop(values);
-        drop(fields);
-    }
 }
 
 /// The variables of classes.
@@ -69,27 +55,12 @@ pub struct Classed {
 }
 
 /// All tables of a unit.
+#[derive(Drop)]
 pub struct UnitTables {
     pub based: Based,
     pub shared: Shared,
     pub parted: Parted,
     pub classed: Classed,
-}
-
-// By hand, so that a drop is one call: a derived one is written out wherever a `?` may need it, and a proof goes over each part.
-impl Drop for UnitTables {
-    fn drop(self) {
-        let UnitTables {
-            based,
-            shared,
-            parted,
-            classed,
-        } = self;
-        drop(based);
-        drop(shared);
-        drop(parted);
-        drop(classed);
-    }
 }
 
 fn base_tables(alloc: Global, unit: &Unit, classes: &ClassTables) -> Result<Based, NoMemory>

@@ -20,14 +20,7 @@ pub enum Decl<A> {
 }
 
 /// A program text as it is written: the note of each node is its line.
+#[derive(Drop)]
 pub struct Unit {
     pub decls: Items<Decl<u32>>,
-}
-
-// By hand, so that a drop is one call: a derived one is written out wherever a `?` may need it, and a proof goes over each part.
-impl Drop for Unit {
-    fn drop(self) {
-        let Unit { decls } = self;
-        drop(decls);
-    }
 }

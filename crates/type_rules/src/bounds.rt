@@ -18,6 +18,7 @@ use written_types::st_scope::Scope;
 use written_types::told_expressions::names_are_told;
 
 /// A bound of an array, checked.
+#[derive(Drop)]
 pub struct CheckedBound {
     /// Where it is an integer or a bit string that can be told.
     pub value: Option<i128>,
@@ -25,37 +26,13 @@ pub struct CheckedBound {
     pub tree: Expr<Note>,
 }
 
-impl Drop for CheckedBound {
-    fn drop(self) {
-        let CheckedBound { value, least, tree } = self;
-        drop(value);
-        drop(least);
-        drop(tree);
-    }
-}
-
 /// A dimension of an array, checked.
+#[derive(Drop)]
 pub struct CheckedDimension {
     pub low: Option<i128>,
     pub high: Option<i128>,
     pub least: Option<(Code, u32)>,
     pub bounds: Bounds<Note>,
-}
-
-// By hand, so that a drop is one call: a derived one is written out wherever a `?` may need it, and a proof goes over each part.
-impl Drop for CheckedDimension {
-    fn drop(self) {
-        let CheckedDimension {
-            low,
-            high,
-            least,
-            bounds,
-        } = self;
-        drop(low);
-        drop(high);
-        drop(least);
-        drop(bounds);
-    }
 }
 
 /// Whether the type is one of integers or bit strings.

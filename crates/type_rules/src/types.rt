@@ -13,22 +13,13 @@ use std::alloc::Global;
 use written_types::st_scope::Scope;
 
 /// What is found out about a type as it is written.
+#[derive(Drop)]
 pub struct CheckedType {
     /// The type, where it can be told.
     pub kind: Option<StType>,
     /// The least rule that is broken, with its least line.
     pub least: Option<(Code, u32)>,
     pub tree: TypeSpec<Note>,
-}
-
-// By hand, so that a drop is one call: a derived one is written out wherever a `?` may need it, and a proof goes over each part.
-impl Drop for CheckedType {
-    fn drop(self) {
-        let CheckedType { kind, least, tree } = self;
-        drop(kind);
-        drop(least);
-        drop(tree);
-    }
 }
 
 /// Checks a type as it is written: what it means, where it can be told, the least rule that it breaks at its least line, and its typed
