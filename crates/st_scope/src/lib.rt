@@ -15,5 +15,5 @@ mod unit_tables;
 pub use iface_tables;
 pub use places::Places;
 pub use scope::{Meant, Qualifier, Scope, local_places};
-pub use telling::tell_local;
 pub use tables::NameTables;
+pub use telling::tell_local;

@@ -135,9 +135,7 @@ impl<'a> Scope<'a> {
         ensures { IfOk result (λ s. s ≡ record { classes = classes_in classes.now.decls; interfaces = interfaces_in classes.now.decls; names = names.now.names; class = class; in_method = in_method; locals = locals.now }) }
     {
         let places = local_places(alloc, locals)?;
-        Ok(Scope::over(
-            names, classes, interfaces, locals, places, class, in_method,
-        ))
+        Ok(Scope::over(names, classes, interfaces, locals, places, class, in_method))
     }
 
     /// The same scope, where it is known where the names of the locals stand.
@@ -168,7 +166,7 @@ impl<'a> Scope<'a> {
 
     /// Where the names of its locals stand.
     pub fn into_places(self) -> Places
-        ensures { ArePlaces result self.locals }
+        ensures { ArePlaces result self.entry.locals }
     {
         self.places
     }
