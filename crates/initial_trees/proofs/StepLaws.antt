@@ -42,14 +42,15 @@ nothing_found o v b h f = sym (h ∙ ap (λ b. if b then v else None) f)
 -- ---- arrays
 
 -- one without elements has a value where their type has one
-pub none_needed : (p : Program) (n : ℕ) (t : StType) (i : Option (Initial Note)) (o : Option CodeValue) (x : CodeValue) (end count : ℕ) → option_map value_of o ≡ value_within p n t None → o ≡ Some x → end ≡ count → end ≡ 0
-    → Some no_values ≡ array_within p n t count i
-none_needed p n t i o x end count ov ox e z =
+pub none_needed : (p : Program) (n : ℕ) (t : StType) (i : Option (Initial Note)) (o : Option CodeValue) (vs : Option Values) (end count : ℕ) → option_map value_of o ≡ value_within p n t None → vs ≡ option_map (λ x. no_values) (option_map value_of o) → end ≡ count → end ≡ 0
+    → vs ≡ array_within p n t count i
+none_needed p n t i o vs end count ov h e z =
     let none : 0 ≡ count = sym z ∙ e in
-    sym (ap (λ o. o >>= λ x. Some no_values) (sym ov ∙ ap (option_map value_of) ox)) ∙ ap (λ count. array_within p n t count i) none
-
-pub none_missing : (p : Program) (n : ℕ) (t : StType) (i : Option (Initial Note)) (o : Option CodeValue) (count : ℕ) → option_map value_of o ≡ value_within p n t None → o ≡ None → None ≡ array_within p n t count i
-none_missing p n t i o count ov on = sym (ap (λ o. o >>= λ x. elements_within p n t (list_given i) 0 count) (sym ov ∙ ap (option_map value_of) on))
+    h ∙ by (option_map value_of o) ∙ ap (λ a. a >>= λ x. Some no_values) ov ∙ ap (λ count. array_within p n t count i) none
+  where
+    by : (a : Option Value) → option_map (λ x. no_values) a ≡ (a >>= λ x. Some no_values)
+    by None = refl
+    by (Some x) = refl
 
 -- whether a type has a value does not hang on what is given, so that the first element tells it
 first_tells : (p : Program) (n : ℕ) (t : StType) (i : Option (Initial Note)) (count : ℕ) → 0 < count → array_within p n t count i ≡ elements_within p n t (list_given i) 0 count

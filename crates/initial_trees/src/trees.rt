@@ -62,6 +62,16 @@ fn array_value(low: &i128, elements: Series<Value>) -> Value
     Value::Array(*low, elements)
 }
 
+/// The elements of an array that has none, where their type has a value.
+fn no_elements(alloc: Global, one: Option<Value>) -> Option<Series<Value>>
+    ensures { option_map values_of result ≡ option_map (λ x. no_values) (option_map value_of one) }
+{
+    match one {
+        Some(_) => Some(Series::new(alloc)),
+        None => None,
+    }
+}
+
 /// Whether there is a class or a program of this number.
 fn has_class(program: &Program, c: u32) -> bool
     ensures { result ≡ is_some (class_at (program_of program.now) c) }
@@ -191,10 +201,8 @@ fn array_within(
         return Err(NoMemory);
     };
     if end == 0 {
-        return match value_within(alloc, program, members, depth, of, None)? {
-            Some(_) => Ok(Some(Series::new(alloc))),
-            None => Ok(None),
-        };
+        let one = value_within(alloc, program, members, depth, of, None)?;
+        return Ok(no_elements(alloc, one));
     }
     let givens = elements_given(alloc, given, end)?;
     let elements = elements_within(alloc, program, members, depth, of, end, &givens)?;

@@ -10,7 +10,7 @@ use Rattle.initial_trees.specs.Private.Trees.{given_by, value_within, members_wi
 use Rattle.initial_trees.proofs.ListLaws.{elements_next, members_next, members_ended, elements_ended}
 use Rattle.st_initial.proofs.WalkLaws.{positive}
 use Rattle.initial_trees.proofs.LevelLaws.{elementary_value, enumeration_value, reference_value, interface_value, array_value, structure_value, instance_value}
-use Rattle.initial_trees.proofs.StepLaws.{number_found, null_found, array_seen, no_array_seen, none_needed, none_missing, array_found, structure_found, instance_found}
+use Rattle.initial_trees.proofs.StepLaws.{number_found, null_found, array_seen, no_array_seen, none_needed, array_found, structure_found, instance_found}
 use Rattle.initial_trees.proofs.trees.+trees.Goals as goal
 
 pub value_within-returns-in-Elementary : goal.value_within-returns-in-Elementary
@@ -52,14 +52,10 @@ pub value_within-returns-in_ok-v-in-Instance : goal.value_within-returns-in_ok-v
 value_within-returns-in_ok-v-in-Instance t c =
     c.in_ok-v-in-Instance.ensures ∙ sym (instance_value (program_of c.args.program.now) c.args.kind.now (given_by c.args.given) c.args.depth c.in-Instance.c (positive c.args.depth c.if-depth-eq0-3.false) c.in-Instance.is)
 
-pub array_within-returns-in-Some-2 : goal.array_within-returns-in-Some-2
-array_within-returns-in-Some-2 t c =
-    none_needed (program_of c.args.program.now) c.args.depth c.args.of.now (given_by c.args.given) c.in_ok-value_within.field-0 c.in-Some-2.field-0 c.in-Some.end (extent c.args.low.now c.args.high.now) c.in_ok-value_within.ensures c.in-Some-2.is c.in-Some.ensures
+pub array_within-returns-then-end-eq0 : goal.array_within-returns-then-end-eq0
+array_within-returns-then-end-eq0 t c =
+    none_needed (program_of c.args.program.now) c.args.depth c.args.of.now (given_by c.args.given) c.in_ok-one.one (option_map values_of c.no_elements.result) c.in-Some.end (extent c.args.low.now c.args.high.now) c.in_ok-one.ensures c.no_elements.ensures c.in-Some.ensures
     c.if-end-eq0.true
-
-pub array_within-returns-in-None : goal.array_within-returns-in-None
-array_within-returns-in-None t c =
-    none_missing (program_of c.args.program.now) c.args.depth c.args.of.now (given_by c.args.given) c.in_ok-value_within.field-0 (extent c.args.low.now c.args.high.now) c.in_ok-value_within.ensures c.in-None.is
 
 pub array_within-returns : goal.array_within-returns
 array_within-returns t c =
