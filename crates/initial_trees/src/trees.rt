@@ -307,13 +307,33 @@ fn members_within(
     requires { tables.Holds (program_of program.now) members.now }
     ensures { IfOk result (λ ms. option_map members_of ms ≡ trees.members_within (program_of program.now) depth (variables_of (tables.items_at (option_map (λ vs. vs.now) variables.entry))) (fields_of inits.now)) }
 {
-    let mut found = Series::new(alloc);
     let Some(variables) = variables else {
-        return Ok(Some(found));
+        return Ok(Some(Series::new(alloc)));
     };
+    let variables = variables.as_slice();
     let index = index_of(alloc, inits)?;
-    for variable in variables.as_slice() {
-        let given = given_to(variable, &index, inits);
+    let found = members_by(alloc, program, members, depth, variables, &index, inits)?;
+    Ok(found)
+}
+
+/// The values of variables, by the index of what is given to them.
+#[cycle(trees)]
+fn members_by(
+    alloc: Global,
+    program: &Program,
+    members: &Members<'_>,
+    depth: u32,
+    variables: &[Variable<'_>],
+    index: &Option<Places>,
+    inits: &[FieldInit<Note>],
+) -> Result<Option<Series<Member>>, NoMemory>
+    requires members { tables.Holds (program_of program.now) members.now }
+    requires index { IsIndex index.now inits.now }
+    ensures { IfOk result (λ ms. option_map members_of ms ≡ trees.members_within (program_of program.now) depth (variables_of variables.now) (fields_of inits.now)) }
+{
+    let mut found = Series::new(alloc);
+    for variable in variables {
+        let given = given_to(variable, index, inits);
         match value_within(alloc, program, members, depth, variable.kind, given)? {
             Some(value) => push_member(alloc, &mut found, variable.name, value)?,
             None => return Ok(None),

@@ -80,13 +80,16 @@ instance_within-returns-in_ok-copy-in-Some-2 t c =
     instance_found (program_of c.args.program.now) c.args.depth c.args.c (given_by c.args.given) c.args.members.now _ c.in-Some.name _ _ _ _ _ c.class_name.ensures c.in-Some.is (c.in_ok-copy-in-Some-2.ensures ∙ c.as_str.ensures) c.get-variables.ensures.value (c.requires.classes c.args.c) c.fields_given.ensures
     c.in_ok-fields.ensures c.in-Some-2.is
 
-pub members_within-loop-variable-preserved : goal.members_within-loop-variable-preserved
-members_within-loop-variable-preserved t c =
-    members_next (program_of c.args.program.now) c.args.depth c.as_slice-variable-items.result.now (fields_of c.args.inits.now) c.loop-variable.variable-index c.variable-item.result c.loop-variable.found c.push_member.new.found _ c.loop-variable-test.true c.variable-item.is c.loop-variable.invariant
-    (ap (value_within (program_of c.args.program.now) c.args.depth c.variable-item.result.kind.now) (sym c.given_to-given.ensures) ∙ sym c.in_ok-value.ensures ∙ ap (option_map value_of) c.in-Some-2.is) c.in_ok-push_member-in-Some-2.ensures
-
 pub members_within-returns : goal.members_within-returns
 members_within-returns t c =
-    members_ended (program_of c.args.program.now) c.args.depth c.as_slice-variable-items.result.now (fields_of c.args.inits.now) c.loop-variable.variable-index c.loop-variable.found c.loop-variable-test.false c.loop-variable.invariant
-    ∙ ap (λ vs. members_within (program_of c.args.program.now) c.args.depth (variables_of vs) (fields_of c.args.inits.now)) c.as_slice-variable-items.ensures
+    c.in_ok-found.ensures
+    ∙ ap (λ vs. members_within (program_of c.args.program.now) c.args.depth (variables_of vs) (fields_of c.args.inits.now)) c.as_slice-variables.ensures
     ∙ ap (λ o. members_within (program_of c.args.program.now) c.args.depth (variables_of (items_at (option_map (λ vs. vs.now) o))) (fields_of c.args.inits.now)) (sym c.in-Some.is)
+
+pub members_by-loop-variable-preserved : goal.members_by-loop-variable-preserved
+members_by-loop-variable-preserved t c =
+    members_next (program_of c.args.program.now) c.args.depth c.args.variables.now (fields_of c.args.inits.now) c.loop-variable.variable-index c.variable-item.result c.loop-variable.found c.push_member.new.found _ c.loop-variable-test.true c.variable-item.is c.loop-variable.invariant
+    (ap (value_within (program_of c.args.program.now) c.args.depth c.variable-item.result.kind.now) (sym c.given_to-given.ensures) ∙ sym c.in_ok-value.ensures ∙ ap (option_map value_of) c.in-Some.is) c.in_ok-push_member-in-Some.ensures
+
+pub members_by-returns : goal.members_by-returns
+members_by-returns t c = members_ended (program_of c.args.program.now) c.args.depth c.args.variables.now (fields_of c.args.inits.now) c.loop-variable.variable-index c.loop-variable.found c.loop-variable-test.false c.loop-variable.invariant

@@ -23,8 +23,11 @@ decreases-instance_within l = 4 * l.depth + 3
 abbrev pub decreases-members_within : goal.decreases-members_within
 decreases-members_within l = 4 * l.depth + 2
 
+abbrev pub decreases-members_by : goal.decreases-members_by
+decreases-members_by l = 4 * l.depth + 1
+
 abbrev pub invariant-elements_within-loop-k : goal.invariant-elements_within-loop-k
 invariant-elements_within-loop-k l = ElementsLeft (program_of l.program) l.depth l.of (inits_of l.givens) l.end l.k l.found
 
-abbrev pub invariant-members_within-loop-variable : goal.invariant-members_within-loop-variable
-invariant-members_within-loop-variable l = MembersLeft (program_of l.program) l.depth l.variable-items (fields_of l.inits) l.variable-index l.found
+abbrev pub invariant-members_by-loop-variable : goal.invariant-members_by-loop-variable
+invariant-members_by-loop-variable l = MembersLeft (program_of l.program) l.depth l.variables (fields_of l.inits) l.variable-index l.found
