@@ -64,7 +64,9 @@ next : (a : Around) (d : Declaring) (vs : List DeclaredVariable) (p : ℕ) (w : 
 next a (code.Routine name of sections) vs p w k z h g c t v =
     subst (λ n. SoundLocals (with_local vs (n + p) k (target.Constant z)) (all_told (code.Routine name of sections) (scope_around a))) (count-is (scope_around a) of.now)
     (local_place_laws.routine_next (scope_around a) name.now.text of.now sections.now vs p w k z h g c t v)
-next a (code.Program sections) vs p w k z h g c t v = local_place_laws.program_next (scope_around a) sections.now vs p w k z h g c t v
+next a (code.Program sections) vs p w k z h g c t v =
+    let q : p ≡ 0 + p = omega arith in
+    subst (λ n. SoundLocals (with_local vs n k (target.Constant z)) (all_told (code.Program sections) (scope_around a))) q (local_place_laws.program_next (scope_around a) sections.now vs p w k z h g c t v)
 
 round : (a : Around) (d : Declaring) (vs : List DeclaredVariable) → SoundLocals vs (all_told d (scope_around a)) → SoundLocals (declared_in d (scope_with a vs)) (all_told d (scope_around a))
 round a (code.Routine name of sections) vs h = (local_laws.routine (scope_around a) name.now.text of.now sections.now).round vs h
