@@ -3,14 +3,8 @@
 //! as they are. Each other line asks something of the text before it, and is printed with the answer behind it.
 #![tactic(auto)]
 
-mod code;
-mod journals;
-mod layout;
-mod machine;
-mod plant;
-mod streams;
-
 use plc_text::{NoMemory, Text, split_field};
+use source_check::Language;
 use std::alloc::Global;
 use std::io;
 
@@ -18,13 +12,11 @@ use std::io;
 fn tell(alloc: Global, told: &mut Text, text: &str, line: &str) -> Result<(), NoMemory> {
     let (question, words) = split_field(line);
     match question {
-        "check" | "play" => streams::tell(alloc, told, text, question, words),
-        "copy" => streams::tell_copy(alloc, told, text, words),
-        "journal" => journals::tell(alloc, told, text, words),
-        "load" => journals::tell_load(alloc, told, words),
-        "core" => plant::tell(alloc, told, text, words),
-        "valid" | "list" | "run" | "hook" => machine::tell(alloc, told, text, question, words),
-        _ => layout::tell(alloc, told, text, question, words),
+        "core" => plant_tests::tell(alloc, told, text, words),
+        "valid" | "list" | "run" | "hook" => {
+            machine_tests::tell(alloc, told, text, question, words)
+        }
+        _ => source_tests::tell::<Language>(alloc, told, text, question, words),
     }
 }
 

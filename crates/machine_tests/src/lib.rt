@@ -1,0 +1,7 @@
+//! What the program of tests asks of the machine: code that is written as text is judged, listed and run.
+#![tactic(auto)]
+
+mod code;
+mod runs;
+
+pub use runs::tell;

@@ -1,0 +1,7 @@
+//! What the program of tests asks of the core of a plant: calls on a core of three counters.
+#![tactic(auto)]
+
+mod calls;
+mod sending;
+
+pub use calls::tell;

@@ -1,2 +1,0 @@
-mod PlantLaws
-mod PlantInputs
