@@ -1,5 +1,5 @@
 -- The constants among locals, told one by one.
-use Rattle.std.specs.Prelude.{◌≡◌, ℕ, suc, ℤ, Bool, ◌&&◌, not, if◌then◌else◌, List, [], ◌∷◌, Option, Some, None}
+use Rattle.std.specs.Prelude.{ℕ, suc, ℤ, Bool, ◌&&◌, not, if◌then◌else◌, List, [], ◌∷◌, Option, Some, None}
 use Rattle.st_types.specs.declared.st_type.StType.{StType}
 use Rattle.st_tree.specs.declared.program.Target.TheVariants as target
 use Rattle.st_rules.specs.declared.names.DeclaredVariable.{DeclaredVariable}

@@ -1,5 +1,3 @@
-use Rattle.std.proofs.Common.{ap, ◌∙◌}
-use Rattle.told_locals.specs.Around.{declared_in}
 use Rattle.told_locals.proofs.TellingLaws.{around-values}
 use Rattle.told_locals.proofs.around.declared_with.Goals as goal
 
