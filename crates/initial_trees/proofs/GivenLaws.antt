@@ -32,7 +32,7 @@ module _ (fields : List (FieldInit Note)) where
       ∙ ap (λ m. if same m n then Some (field_of x).2 else given_for n (fields_of (drop (k + 1) fields))) (field_of-name x)
       ∙ ap (λ v. if same x.name n then Some v else given_for n (fields_of (drop (k + 1) fields))) (field_of-value x)
 
-  pub from_next : (i : ℕ) (table new : Table) (x : FieldInit Note) → 0 < i → x ≡ get_or fields (i - 1) x → FromHere i table → ((n : List ℕ) → found_in new n ≡ (if same x.name n then Some (i - 1) else found_in table n)) → FromHere (i - 1) new
+  pub from_next : (i : ℕ) (table new : Table) (x : FieldInit Note) → 0 < i → x ≡ get_or fields (i - 1) x → FromHere i table → ((n : List ℕ) → found_in new n ≡ (if same (get_or fields (i - 1) x).name n then Some (i - 1) else found_in table n)) → FromHere (i - 1) new
   from_next i table new x h is so_far put =
       let w = so_far.within in
       record { within = omega (arith, w); finds = λ n. at n }
@@ -42,7 +42,7 @@ module _ (fields : List (FieldInit Note)) where
           let w = so_far.within in
           let e : (i - 1) + 1 ≡ i = omega (arith, h) in
           let l : i - 1 < length fields = omega (arith, h, w) in
-          ap (given_at fields) (put n)
+          ap (given_at fields) (put n ∙ ap (λ (y : FieldInit Note). if same y.name n then Some (i - 1) else found_in table n) (sym is))
           ∙ here (same x.name n) (i - 1) x (found_in table n) (slice_get-get_or fields (i - 1) x l ∙ ap Some (sym is))
           ∙ ap (λ o. if same x.name n then Some (initial_of x.value) else o) (so_far.finds n ∙ sym (ap (λ m. given_for n (fields_of (drop m fields))) e))
           ∙ sym (first_is (i - 1) x n l is)
