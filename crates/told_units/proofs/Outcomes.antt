@@ -1,33 +1,31 @@
 -- What constant expressions come to, case by case.
-use Rattle.std.proofs.Common.{◌≡◌, ℕ, ℤ, zero, suc, ◌+◌, ◌-◌, ◌^◌, ◌<◌, ◌≤◌, Bool, true, false, List, [], ◌∷◌, ◌++◌, Option, Some, None, refl, sym, ap, ◌∙◌, arith}
-use Rattle.std.specs.Prelude.{pos, neg_ℤ, negsuc, int_le, nat_lt, nat_le, if◌then◌else◌, ◌&&◌, ◌||◌, not}
-use Rattle.std.specs.Option.{is_some}
+use Rattle.std.proofs.Common.{◌≡◌, ℕ, ℤ, ◌^◌, Bool, true, false, List, [], ◌∷◌, ◌++◌, Option, refl, sym, ap, ◌∙◌, arith}
+use Rattle.std.specs.Prelude.{pos, neg_ℤ, negsuc, int_le, nat_lt, if◌then◌else◌, ◌&&◌, not}
 use Rattle.std.proofs.lemmas.Grind.{common_steps}
-use Rattle.plc_text.specs.declared.code.Code.TheVariants.{E05, E07, E09, E13}
+use Rattle.plc_text.specs.declared.code.Code.TheVariants.{E07, E13}
 use Rattle.st_types.specs.declared.elem.Elem.{Elem}
 use Rattle.st_types.specs.declared.elem.Elem.TheVariants as kind
 use Rattle.st_types.specs.declared.st_type.StType.{StType}
 use Rattle.st_types.specs.declared.st_type.StType.TheVariants as type
 use Rattle.st_types.specs.Range.{lowest, highest}
 use Rattle.st_tree.specs.declared.expression.Literal.{Literal}
-use Rattle.st_tree.specs.declared.expression.Literal.TheVariants as literal
 use Rattle.st_tree.specs.declared.expression.Operator.{Operator}
 use Rattle.st_tree.specs.declared.expression.Operator.TheVariants as operator
 use Rattle.st_tree.specs.declared.program.Target.{Target}
 use Rattle.st_tree.specs.declared.program.Target.TheVariants as target
 use Rattle.st_tree.specs.Duration.{milliseconds}
 use Rattle.st_tree.specs.Number.{number_of}
-use Rattle.st_tree.specs.Expression.{Expression, Int, Typed, Time, True, False, Null, Place, Call, Enumerator, Ref, Now, Paren, Not, Negate, Chain, Positional, Input, Output, Arguments, no_arguments, argument_then, Tails, no_tails, tail_then}
+use Rattle.st_tree.specs.Expression.{Expression, Positional, Input, Output, Arguments, no_arguments, argument_then}
 use Rattle.st_rules.specs.declared.asked.Asked.{Asked}
 use Rattle.st_rules.specs.declared.asked.Asked.TheVariants.{Anything, Wanted, Untold}
-use Rattle.st_rules.specs.Faults.{Faults, at, when}
+use Rattle.st_rules.specs.Faults.{Faults}
 use Rattle.st_rules.specs.Kinds.{dint, is_elementary, is_number}
-use Rattle.st_rules.specs.Literals.{holds, fits_type, int_faults, int_type, negative_faults, negative_type, negative_taken, past_64_bits, number_past_its_type, typed_literal_faults, is_wrong_truth, literal_number, truth_of_another_kind, literal_past_its_kind, time_past_32_bits}
+use Rattle.st_rules.specs.Literals.{holds, fits_type, int_faults, negative_faults, negative_type, negative_taken, past_64_bits, number_past_its_type, typed_literal_faults, is_wrong_truth, literal_number, truth_of_another_kind, literal_past_its_kind, time_past_32_bits}
 use Rattle.st_rules.specs.Scope.{Scope}
-use Rattle.st_rules.specs.Calls.{a_conversion, heads, Head, unnamed, names_input, names_output, callee_faults, matching_faults, positional_and_named_mixed, wrong_number_of_positional, named_unknown_or_twice, unknown_or_repeated, in_out_left_out, operand_parameter, callee_parameters}
+use Rattle.st_rules.specs.Calls.{a_conversion, heads, Head, names_input, names_output, callee_faults, matching_faults, positional_and_named_mixed, wrong_number_of_positional, named_unknown_or_twice, in_out_left_out, operand_parameter}
 use Rattle.declared_names.specs.Constants.{Outcome, comes_to, divides_by_zero, cannot_be_told, is_division, is_zero, both, if_true, if_false, operated, outcome_map, literal_outcome, duration_outcome, target_value, is_told, result_of}
 use Rattle.constant_values.specs.ValueLaws.{AsksForTold}
-use Rattle.told_units.specs.Formed.{IsName, HaveNames}
+use Rattle.told_units.specs.Formed.{HaveNames}
 use Rattle.st_rules.proofs.Booleans.{and-both, both as both_true}
 use Rattle.constant_values.proofs.TypeLaws.{none-of, holds-not, passes}
 
