@@ -1,9 +1,10 @@
 -- What is said, as the code goes.
-use Rattle.std.proofs.Common.{◌≡◌, ℕ, List, ◌∷◌, ◌++◌, Option, Some, None, sym, ap, ◌∙◌, subst}
-use Rattle.std.specs.Prelude.{codes}
+use Rattle.std.proofs.Common.{◌≡◌, ℕ, List, ◌∷◌, ◌++◌, Option, Some, None, Result, Ok, Err, sym, ap, ◌∙◌, subst}
+use Rattle.std.specs.Prelude.{codes, IfOk}
 use Rattle.plc_text.specs.Lines.{ended, text_of}
 use Rattle.plc_text.specs.declared.denied.Denied.{Denied}
 use Rattle.plc_text.specs.declared.denied.Denied.TheVariants as denied
+use Rattle.plc_text.specs.declared.memory.NoMemory.{NoMemory}
 use Rattle.plc_text.specs.declared.refusal.Refusal.{Refusal}
 use Rattle.scenario.specs.Reading.{OnBad}
 use Rattle.scenario.specs.declared.scenario_error.ScenarioError.{ScenarioError}
@@ -23,6 +24,10 @@ module _ (Accepts : List ℕ → Program → Type 0) (Refuses : List ℕ → Ref
   pub loads_so : (text : List ℕ) (p : Program) (o : Option Refusal) → Accepts text p → Loads p o → LoadsFirst Accepts Refuses text o
   loads_so text p None a l = record { program = p; accepted = a; starts = l }
   loads_so text p (Some r) a l = by_hook p a l
+
+  pub first_so : {U : Type 0} (text : List ℕ) (p : Program) (r : Result (Option Refusal) NoMemory) → Accepts text p → U → IfOk r (λ o. U → Loads p o) → IfOk r (λ o. LoadsFirst Accepts Refuses text o)
+  first_so text p (Ok o) a u h = loads_so text p o a (h u)
+  first_so text p (Err e) a u h = tt
 
   pub first_some : (text : List ℕ) (o : Option Refusal) (r : Refusal) → o ≡ Some r → LoadsFirst Accepts Refuses text o → FirstRefused Accepts Refuses text r
   first_some text o r e h = subst (λ (x : Option Refusal). LoadsFirst Accepts Refuses text x) e h

@@ -10,7 +10,7 @@ ghost use Rattle.check_console.specs.Private.Lines.{LoadsFirst, SaysSources};
 use crate::sources::push_sources;
 use console_command::{Checker, Report, Verdict, refused_report, script_report};
 use plc_text::{Denied, NoMemory, Refusal, Text};
-use reference_journal::load_first;
+use reference_journal::{give_back, load_first};
 use scenario::{Scenario, ScenarioError, read_scenario};
 use st_names::Names;
 use std::alloc::Global;
@@ -21,8 +21,9 @@ fn first_refusal<J: Checker>(alloc: Global, text: &Text) -> Result<Option<Refusa
 {
     match J::check(alloc, text) {
         Ok(program) => {
-            let refusal = load_first(alloc, &program)?;
-            Ok(refusal)
+            let loaded = load_first(alloc, &program);
+            give_back(program);
+            loaded
         }
         Err(Denied::Refused(refusal)) => Ok(Some(refusal)),
         Err(Denied::NoMemory) => Err(NoMemory),

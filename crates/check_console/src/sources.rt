@@ -7,6 +7,7 @@ ghost use Rattle.check_console.specs.Private.Lines.{Adds, AddsLine};
 
 use console_command::{Checker, push_refusal};
 use plc_text::{Denied, NoMemory, Refusal, Text};
+use reference_journal::give_back;
 use st_names::Names;
 use std::alloc::Global;
 
@@ -42,7 +43,8 @@ fn push_source<J: Checker>(
     ensures { OnOk result (AddsLine J.accepts J.refuses (name.now, text.now) out.old out.new) }
 {
     match J::check(alloc, text) {
-        Ok(_) => {
+        Ok(program) => {
+            give_back(program);
             push_accepted(out, name)?;
             Ok(())
         }

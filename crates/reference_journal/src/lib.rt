@@ -8,6 +8,6 @@ mod played;
 mod playing;
 mod versions;
 
-pub use loading::load_first;
+pub use loading::{give_back, load_first};
 pub use played::Played;
 pub use versions::play_all;

@@ -68,6 +68,12 @@ pub fn let_go(on: Loaded<'_>) {
     } = on;
 }
 
+/// Gives the memory of a program back. The drops of its trees are proved with this function, so a crate above that ends a program by it,
+/// and holds none at a `?`, has none of them to prove.
+pub fn give_back(program: Program) {
+    drop(program);
+}
+
 /// What a first load came to.
 #[derive(Drop)]
 pub enum First {

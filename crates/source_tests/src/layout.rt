@@ -12,6 +12,7 @@ use initial_images::initial_images;
 use mem_image::{At, Regions};
 use mem_layout::Layout;
 use plc_text::{NoMemory, Text, number, split_field};
+use reference_journal::give_back;
 use st_tree::{Path, Program, Step, Steps};
 use std::alloc::Global;
 
@@ -187,7 +188,11 @@ pub fn tell<J: Checker>(
 ) -> Result<(), NoMemory> {
     let source = Text::copy(alloc, text)?;
     match J::check(alloc, &source) {
-        Ok(program) => tell_program(alloc, told, &program, question, words),
+        Ok(program) => {
+            let answer = tell_program(alloc, told, &program, question, words);
+            give_back(program);
+            answer
+        }
         Err(_) => told.push_str("refused"),
     }
 }
