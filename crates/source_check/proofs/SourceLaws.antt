@@ -1,6 +1,6 @@
 -- A source that is accepted, and one that is refused.
-use Rattle.std.proofs.Common.{◌≡◌, ◌⊎◌, inl, inr, ℕ, zero, suc, ◌<◌, ◌≤◌, List, [], length, map, sym, subst, arith}
-use Rattle.std.specs.Prelude.{codes}
+use Rattle.std.proofs.Common.{◌≡◌, ◌⊎◌, inl, inr, ℕ, zero, suc, ◌<◌, ◌≤◌, List, [], length, map, Result, Ok, Err, sym, subst, arith}
+use Rattle.std.specs.Prelude.{codes, IfOk, IfErr}
 use Rattle.plc_text.specs.Lines.{line_of}
 use Rattle.plc_text.specs.declared.code.Code.{Code}
 use Rattle.plc_text.specs.declared.code.Code.TheVariants.{E01, E16}
@@ -64,3 +64,11 @@ module _ (prelude text : List ℕ) where
 
     pub is_accepted : (p : Program) → IsGood whole.decls × IsChecked whole.decls p → Accepted prelude text p
     is_accepted p h = record { whole = whole; is_unit = is; good = h.0; checked = h.1 }
+
+    pub accepted_so : (r : Result Program Denied) → IfOk r (λ p. IsGood whole.decls × IsChecked whole.decls p) → IfOk r (λ p. Accepted prelude text p)
+    accepted_so (Ok p) h = is_accepted p h
+    accepted_so (Err e) h = tt
+
+    pub refused_so : (r : Result Program Denied) → IfErr r (λ e. OnRefused e (λ r'. UnitRefusal whole.decls r'.code r'.declaration r'.line)) → IfErr r (λ e. OnRefused e Its)
+    refused_so (Ok p) h = tt
+    refused_so (Err e) h = not_good e h

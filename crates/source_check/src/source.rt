@@ -11,7 +11,7 @@ ghost use Rattle.source_check.specs.Source.{IsRefusal};
 use plc_text::Denied;
 use st_lexer::{Token, tokens};
 use st_parser_decl::parse;
-use st_prelude::with_prelude;
+use st_prelude::{give_back, with_prelude};
 use st_tree::{Program, Unit};
 use std::alloc::Global;
 use unit_check::check;
@@ -52,6 +52,7 @@ pub fn check_source(alloc: Global, text: &str) -> Result<Program, Denied>
     ensures refused { IfErr result (λ e. OnRefused e (IsRefusal standard_blocks text.now)) }
 {
     let whole = whole_unit(alloc, text)?;
-    let program = check(alloc, &whole)?;
-    Ok(program)
+    let judged = check(alloc, &whole);
+    give_back(whole);
+    judged
 }

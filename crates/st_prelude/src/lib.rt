@@ -4,4 +4,4 @@
 mod prelude;
 mod text;
 
-pub use prelude::with_prelude;
+pub use prelude::{give_back, with_prelude};

@@ -1,8 +1,8 @@
-use Rattle.std.proofs.lemmas.Result.{err_from_is_err_and}
-use Rattle.source_check.proofs.SourceLaws.{not_good}
+use Rattle.source_check.proofs.SourceLaws.{accepted_so, refused_so}
 use Rattle.source_check.proofs.source.check_source.Goals as goal
 
-pub returns-in_err-program-clause-refused : goal.returns-in_err-program-clause-refused
-returns-in_err-program-clause-refused c =
-    let p = err_from_is_err_and c.from_residual-in_err-program.result c.from_residual-in_err-program.ensures.1 in
-    rw (p.1, p.2) (not_good _ _ _ c.in_ok-whole.ensures.ok _ c.in_err-program.ensures.err)
+pub returns-clause-accepted : goal.returns-clause-accepted
+returns-clause-accepted c = accepted_so _ _ _ c.in_ok-whole.ensures.ok c.check-judged.result c.check-judged.ensures.ok
+
+pub returns-clause-refused : goal.returns-clause-refused
+returns-clause-refused c = refused_so _ _ _ c.in_ok-whole.ensures.ok c.check-judged.result c.check-judged.ensures.err
