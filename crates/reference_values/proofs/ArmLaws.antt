@@ -1,27 +1,32 @@
 -- The arms of an expression: what a step gave, and what the expression then gives.
-use Rattle.std.proofs.Common.{◌≡◌, ℕ, ℤ, pos, List, Result, Err, refl, sym, ap, ◌∙◌, subst}
+use Rattle.std.proofs.Common.{◌≡◌, ℕ, ℤ, pos, List, Option, Result, Err, refl, sym, ap, ◌∙◌, subst}
 use Rattle.plc_text.specs.declared.fault.FaultKind.TheVariants as fault
 use Rattle.plc_num.specs.Arithmetic.{difference}
 use Rattle.plc_num.specs.Bits.{complement}
+use Rattle.st_tree.specs.declared.expression.Argument.{Argument as CodeArgument}
+use Rattle.st_tree.specs.declared.expression.Argument.TheVariants as argument
 use Rattle.st_tree.specs.declared.expression.Expr.{Expr}
 use Rattle.st_tree.specs.declared.expression.Expr.TheVariants as code
 use Rattle.st_tree.specs.declared.expression.Place.{Place as CodePlace}
 use Rattle.st_tree.specs.declared.expression.Tail.{Tail}
+use Rattle.st_tree.specs.declared.path.Path.{Path}
 use Rattle.st_tree.specs.declared.program.Note.{Note}
 use Rattle.st_tree.specs.Expression as tree
-use Rattle.st_tree.specs.Expression.{Expression, expression_of, expression_of-Paren, expression_of-Not, expression_of-Negate, expression_of-Chain, expression_of-Ref, place_of, tails_of}
-use Rattle.st_values.specs.Program.{Program}
+use Rattle.st_tree.specs.Expression.{Expression, expression_of, expression_of-Paren, expression_of-Not, expression_of-Negate, expression_of-Chain, expression_of-Ref, argument_of, argument_of-Output, place_of, tails_of}
+use Rattle.st_values.specs.Program.{Parameter, Program}
 use Rattle.st_values.specs.Value.{Value, number, reference}
-use Rattle.st_meaning.specs.State.{Spot, State, Outcome, Done, Fault, go_on, path_of}
+use Rattle.st_meaning.specs.State.{Spot, Frame, State, Outcome, Done, Fault, go_on, path_of, write}
 use Rattle.st_meaning.specs.Operation.{number_in, elem_of}
-use Rattle.st_meaning.specs.Call.{Enter}
-use Rattle.st_meaning.specs.Expression.{value, place, chained, bound_place}
+use Rattle.st_meaning.specs.Call.{Enter, parameter_named}
+use Rattle.st_meaning.specs.Expression.{value, place, chained, bound_place, output_of}
 use Rattle.run_state.specs.declared.state.Spot.{Spot as CodeSpot}
 use Rattle.run_state.specs.declared.state.Stop.{Stop}
 use Rattle.run_state.specs.declared.state.Stop.TheVariants as stop
-use Rattle.run_state.specs.State.{Shows, spot_of}
+use Rattle.run_state.specs.State.{Agrees, Shows, spot_of}
 use Rattle.value_trees.specs.declared.value.Value.{Value as CodeValue}
 use Rattle.value_trees.specs.Value.{value_of}
+use Rattle.reference_values.specs.Called.{written}
+use Rattle.reference_values.specs.Private.Parts.{one_output}
 use Rattle.reference_values.proofs.LoopSteps.{stopped}
 
 module _ (p : Program) (enter : Enter) (line : ℕ) (s : State) where
@@ -96,3 +101,15 @@ module _ (p : Program) (enter : Enter) (line : ℕ) (s : State) where
       → Shows spot_of (Err r) (bound_place p enter (expression_of e) line s) t
   unplaced e y x r t h k d is =
       subst (λ (q : Stop). Shows spot_of (Err q) (bound_place p enter (expression_of e) line s) t) (sym is) (ap (λ z. bound_place p enter (expression_of z) line s) h ∙ ap (λ z. bound_place p enter z line s) k ∙ d)
+
+  -- an output was read, and is written
+  abbrev writes : CodePlace Note → Value → State → Outcome (Unit {0})
+  writes q v u = go_on (place p enter (place_of q).0 (place_of q).1 line u) (λ spot. write spot v line)
+
+  pub output_agrees : (ps : List Parameter) (own : Option Path) (f : Frame) (x : CodeArgument Note) (a b : Note) (n : List ℕ) (q : CodePlace Note) (named : Option Parameter) (v : Value) (r : Result (Unit {0}) Stop) (t : State) → x ≡ argument.Output a n b q
+      → named ≡ parameter_named ps a → output_of named own f line s ≡ Done v s → Agrees r (written (place p enter (place_of q).0 (place_of q).1) v line s) t → Agrees r (one_output p enter ps own f (argument_of x) line s) t
+  output_agrees ps own f x a b n q named v r t h k ran wrote =
+      subst (λ (o : Outcome (Unit {0})). Agrees r o t) (sym (
+      ap (λ y. one_output p enter ps own f y line s) (ap argument_of h ∙ argument_of-Output a n b q)
+      ∙ ap (λ m. go_on (output_of m own f line s) (writes q)) (sym k)
+      ∙ ap (λ o. go_on o (writes q)) ran)) wrote

@@ -10,7 +10,7 @@ use Rattle.call_steps.specs.Parameters.{parameters_of}
 use Rattle.run_state.specs.State.{frame_of, spot_of, state_of}
 use Rattle.value_trees.specs.Value.{value_of}
 use Rattle.reference_values.specs.Private.Parts.{called_of}
-use Rattle.reference_values.proofs.ArmLaws.{leaf, paren_shows, not_ends, not_stops, negate_ends, negate_stops, chain_shows, chain_stops, ref_ends, ref_stops, unplaced}
+use Rattle.reference_values.proofs.ArmLaws.{leaf, paren_shows, not_ends, not_stops, negate_ends, negate_stops, chain_shows, chain_stops, ref_ends, ref_stops, unplaced, output_agrees}
 use Rattle.reference_values.proofs.CallSteps.{value_unsought, value_unrun, value_left}
 use Rattle.reference_values.proofs.LoopSteps.{next, stopped, halted, arguments_go, arguments_stop, arguments_end, outputs_at, along_at, chained_at, indexed_at, value_seen}
 use Rattle.reference_values.proofs.walk.Walk.+values.Goals as goal
@@ -80,6 +80,11 @@ pub outputs-returns-in-Err-clause-run : goal.outputs-returns-in-Err-clause-run
 outputs-returns-in-Err-clause-run g t c =
     halted c.in-Err.stop _ _ _ _ (state_of c.output.new.m)
     (outputs_at (program_of c.args.self.now.tables.now) (enter (program_of c.args.self.now.tables.now) c.args.self.now.room) c.args.line (state_of c.loop-argument.m) c.loop-argument.argument-index c.args.arguments.now c.argument-item.result (parameters_of c.args.parameters.now) (option_map (λ q. q.now) c.args.own) (frame_of c.args.frame.now) c.loop-argument-test.true c.argument-item.is) c.loop-argument.invariant.0 c.in-Err.ensures.run
+
+pub output-returns-in_ok-v-in-Output-clause-run : goal.output-returns-in_ok-v-in-Output-clause-run
+output-returns-in_ok-v-in-Output-clause-run g t c =
+    output_agrees (program_of c.args.self.now.tables.now) (enter (program_of c.args.self.now.tables.now) c.args.self.now.room) c.args.line (state_of c.args.m.now) (parameters_of c.args.parameters.now) (option_map (λ q. q.now) c.args.own) (frame_of c.args.frame.now) c.args.argument.now
+    c.in-Output.a c.in-Output.field-2 c.in-Output.field-1 c.in-Output.place _ (value_of c.in_ok-v-in-Output.v) c.write.result (state_of c.write.new.m) c.in-Output.is c.parameter_named-parameter.ensures c.in_ok-v-in-Output.ensures c.write.ensures.run
 
 pub value-returns-in_err-called-in-Call-clause-run : goal.value-returns-in_err-called-in-Call-clause-run
 value-returns-in_err-called-in-Call-clause-run g t c =
