@@ -1,2 +1,2 @@
 pub mod Units
-mod Texts
+pub mod Texts
