@@ -268,6 +268,7 @@ FormedDecl most (decls.Function f) = FormedFunction f
 FormedDecl most (decls.Program d) = FormedProgram d
 FormedDecl most (decls.Configuration c) = FormedConfiguration c
 
+-- all declarations of a unit are; no enumeration has more than so many values
 abbrev pub IsFormed : ℕ → List (Decl ℕ) → Type 0
 IsFormed most ds = Every (FormedDecl most) ds
 
