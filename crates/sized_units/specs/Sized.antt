@@ -13,6 +13,8 @@ use Rattle.st_frame.specs.Promise.{ProgramIs}
 use Rattle.store_bytes.specs.InitialLaws.{StartsInRange}
 use Rattle.store_bytes.specs.PlaceLaws.{AreSmall}
 use Rattle.mem_layout.specs.Layout.{RegionsHaveShapes}
+use Rattle.st_prelude.specs.Blocks.{standard_blocks}
+use Rattle.st_accepted.specs.Accepted.{Accepted}
 use Rattle.formed_units.specs.Formed.{IsFormed}
 
 -- counted values: numbers, references, and each instance as one more; a structure is its fields, and one value where it has none
@@ -69,5 +71,7 @@ pub record IsSized (p : Program) : Type 0 where
 pub record SizedUnitLaws : Type 0 where
   -- the checked program of a good unit that is formed is sized
   pub sized : (most : ℕ) (decls : List (Decl ℕ)) (p : CheckedProgram) → most ≤ 4_294_967_296 → IsFormed most decls → IsGood decls → IsChecked decls p → IsSized (program_of p)
+  -- so is the program of each source that is accepted
+  pub accepted : (text : List ℕ) (p : CheckedProgram) → Accepted standard_blocks text p → IsSized (program_of p)
   -- and where it keeps its promise, the initial values of its regions are in range
   pub starts : (p : Program) → ProgramIs p → IsSized p → StartsInRange p
