@@ -12,7 +12,6 @@ ghost use Rattle.plant_rules.specs.History.{state_of, at_play, is_cycle, is_chan
 ghost use Rattle.plant_rules.specs.Next.{IsKit, IsNextWhole};
 ghost use Rattle.plant_tests.specs.Calls.{SortAs};
 
-use crate::sending::handed_core;
 use cycle_journal::{Play, journal_text};
 use plant_core::{Begun, Claim, Core, Later, OlderWish, ResetDone, Wanted, Wish};
 use plant_counters::Counters;
@@ -109,11 +108,7 @@ impl<P: Controlled> Model for Table<P> {
     ghost invariant = { λ t. IsTable P.meaning t.core (arc_value t.plays) (values_of (arc_value t.sources)) t.claims.items (λ c. taken c.play c.task c.now c.input.items (arc_value c.kit.shared) c.kit.carrier) (λ c. P.ready (arc_value c.kit.shared) c.task c.kit.work) t.wish t.draft (λ d. drafted d.play (P.base_of d.change) (P.text_of d.change)) (λ d. P.fresh d.change) t.quiet (λ q. away (arc_value q.old) (P.base_of q.change) (P.text_of q.change) q.regions) (λ q. P.fresh q.change) };
 }
 
-impl<P: Controlled + Send + Sync> Table<P>
-where
-    P::Change: Send,
-    P::Work: Send,
-{
+impl<P: Controlled> Table<P> {
     fn new(
         alloc: Global,
         first: Next<P>,
@@ -128,8 +123,7 @@ where
         let claims = slots(alloc, plays.len() + 1)?;
         let ours = plays.clone()?;
         let texts = sources.clone()?;
-        let made = Core::new(alloc, first, ours, texts, phases)?;
-        let core = handed_core(made);
+        let core = Core::new(alloc, first, ours, texts, phases)?;
         Ok(Table {
             core,
             plays,
@@ -140,9 +134,7 @@ where
             quiet: None,
         })
     }
-}
 
-impl<P: Controlled> Table<P> {
     fn begin(&mut self, play: u32, told: &mut Text) -> Result<(), NoMemory>
         requires there { play ≤ length self.old.script.plays }
         requires cycle { is_cycle (at_play P.meaning self.old.script play) ≡ true }
@@ -358,16 +350,13 @@ fn tell_answers<P: Controlled>(
 }
 
 /// Adds the answers of calls on a new core of a version, and its journal.
-fn tell_calls<P: Controlled + Send + Sync>(
+fn tell_calls<P: Controlled>(
     alloc: Global,
     told: &mut Text,
     first: Next<P>,
     scenario: Scenario,
     calls: &str,
 ) -> Result<(), NoMemory>
-where
-    P::Change: Send,
-    P::Work: Send,
     requires few { length scenario.plays.value ≤ 65536 }
     requires inputs { HasShortInputs scenario.plays.value }
     requires whole { IsNextWhole P.meaning (λ t k. IsKit P.meaning P.ready (arc_value first.loaded) t (arc_value k.shared) k.work k.carrier) (arc_value first.loaded) (arc_value first.for_change) first.regions first.kits.items }

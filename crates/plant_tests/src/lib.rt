@@ -2,6 +2,5 @@
 #![tactic(auto)]
 
 mod calls;
-mod sending;
 
 pub use calls::tell;
