@@ -40,7 +40,6 @@ pub struct MethodRow {
 }
 
 /// A class or a function block.
-#[derive(Drop)]
 pub struct ClassRow {
     pub line: u32,
     pub is_block: bool,
@@ -54,6 +53,26 @@ pub struct ClassRow {
     /// The interfaces behind IMPLEMENTS.
     pub implemented: Items<u32>,
     pub methods: Items<MethodRow>,
+}
+
+// By hand, so that a drop is one call: a derived one is written out wherever a `?` may need it, and a proof goes over each part.
+impl Drop for ClassRow {
+    fn drop(self) {
+        let ClassRow {
+            line: _,
+            is_block: _,
+            is_abstract: _,
+            is_final: _,
+            has_in_outs: _,
+            has_extends: _,
+            base,
+            implemented,
+            methods,
+        } = self;
+        drop(base);
+        drop(implemented);
+        drop(methods);
+    }
 }
 
 /// An interface.

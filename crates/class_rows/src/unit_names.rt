@@ -16,7 +16,6 @@ use st_tree::{ClassDecl, Decl, InterfaceDecl, Member};
 use std::alloc::Global;
 
 /// The names that are declared.
-#[derive(Drop)]
 pub struct UnitNames {
     /// The names of methods, each once.
     pub methods: Names<()>,
@@ -26,6 +25,22 @@ pub struct UnitNames {
     /// The first interface of each name.
     pub interfaces: Names<u32>,
     pub interface_count: u32,
+}
+
+// By hand, so that a drop is one call: a derived one is written out wherever a `?` may need it, and a proof goes over each part.
+impl Drop for UnitNames {
+    fn drop(self) {
+        let UnitNames {
+            methods,
+            classes,
+            class_count: _,
+            interfaces,
+            interface_count: _,
+        } = self;
+        drop(methods);
+        drop(classes);
+        drop(interfaces);
+    }
 }
 
 fn number_methods<A>(

@@ -11,7 +11,6 @@ use stack_code::{Ending, Frame, Op};
 use valid_code::ValidCode;
 
 /// The state of a run. Between runs it has no regions.
-#[derive(Drop)]
 pub struct Machine {
     pub words: Words,
     pub locals: Locals,
@@ -19,6 +18,25 @@ pub struct Machine {
     pub regions: Regions,
     pub here: Frame,
     pub ticks: u32,
+}
+
+// By hand, so that a drop is one call: a derived one is written out wherever a `?` may need it, and a proof goes over each part.
+impl Drop for Machine {
+    fn drop(self) {
+        let Machine {
+            words,
+            locals,
+            frames,
+            regions,
+            here,
+            ticks: _,
+        } = self;
+        drop(words);
+        drop(locals);
+        drop(frames);
+        drop(regions);
+        drop(here);
+    }
 }
 
 impl Machine {

@@ -24,7 +24,6 @@ use std::alloc::Global;
 const DECLARATIONS: usize = 4_096;
 
 /// The names that the space of all has before a declaration, and how many declarations of each sort stand before it.
-#[derive(Drop)]
 pub struct DeclarationsBefore {
     /// With those of the instances of configurations.
     pub names: HeldNames,
@@ -34,6 +33,21 @@ pub struct DeclarationsBefore {
     pub interfaces: u32,
     pub classes: u32,
     pub configurations: u32,
+}
+
+// By hand, so that a drop is one call: a derived one is written out wherever a `?` may need it, and a proof goes over each part.
+impl Drop for DeclarationsBefore {
+    fn drop(self) {
+        let DeclarationsBefore {
+            names,
+            count: _,
+            entries: _,
+            interfaces: _,
+            classes: _,
+            configurations: _,
+        } = self;
+        drop(names);
+    }
 }
 
 /// How many declarations of each sort there are.

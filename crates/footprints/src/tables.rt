@@ -15,7 +15,6 @@ use st_tree::Program;
 use std::alloc::Global;
 
 /// Tables of a program.
-#[derive(Drop)]
 pub struct Tables<'p> {
     pub program: &'p Program,
     pub tables: ProgramTables,
@@ -26,6 +25,28 @@ pub struct Tables<'p> {
     pub holders: Vec<Items<u32>>,
     /// Whether each region holds an input.
     pub inputs: Vec<bool>,
+}
+
+// By hand, so that a drop is one call: a derived one is written out wherever a `?` may need it, and a proof goes over each part.
+impl Drop for Tables<'_> {
+    fn drop(self) {
+        let Tables {
+            program,
+            tables,
+            routines,
+            signatures,
+            conformers,
+            holders,
+            inputs,
+        } = self;
+        drop(program);
+        drop(tables);
+        drop(routines);
+        drop(signatures);
+        drop(conformers);
+        drop(holders);
+        drop(inputs);
+    }
 }
 
 fn narrowed(number: usize) -> Result<u32, NoMemory>

@@ -19,7 +19,6 @@ use st_types::StType;
 use std::alloc::Global;
 
 /// The tables of a program.
-#[derive(Drop)]
 pub struct Tables {
     pub functions: usize,
     /// How many classes and programs there are.
@@ -37,6 +36,31 @@ pub struct Tables {
     pub extended: Vec<Items<u32>>,
     /// To which interfaces each interface leads.
     pub reach: Vec<Row>,
+}
+
+// By hand, so that a drop is one call: a derived one is written out wherever a `?` may need it, and a proof goes over each part.
+impl Drop for Tables {
+    fn drop(self) {
+        let Tables {
+            functions: _,
+            classes: _,
+            interfaces: _,
+            class_places,
+            program_places,
+            bases,
+            methods,
+            implemented,
+            extended,
+            reach,
+        } = self;
+        drop(class_places);
+        drop(program_places);
+        drop(bases);
+        drop(methods);
+        drop(implemented);
+        drop(extended);
+        drop(reach);
+    }
 }
 
 /// How many classes and programs there are.

@@ -23,11 +23,25 @@ pub struct Gone {
 }
 
 /// The version that is loaded, its store, the tasks that are held, and those that are gone. The names are in upper case.
-#[derive(Drop)]
 pub struct Controller {
     pub version: u32,
     pub store: Series<Member>,
     /// The task that was held last stands first.
     pub held: Vec<Text>,
     pub gone: Vec<Gone>,
+}
+
+// By hand, so that a drop is one call: a derived one is written out wherever a `?` may need it, and a proof goes over each part.
+impl Drop for Controller {
+    fn drop(self) {
+        let Controller {
+            version: _,
+            store,
+            held,
+            gone,
+        } = self;
+        drop(store);
+        drop(held);
+        drop(gone);
+    }
 }

@@ -20,7 +20,6 @@ use std::alloc::Global;
 use std::marker::Model;
 
 /// What regions hold, which contracts see as the program.
-#[derive(Drop)]
 pub struct RegionInstances {
     of: SeenProgram,
     counts: Counts,
@@ -28,6 +27,22 @@ pub struct RegionInstances {
     rows: Vec<Row>,
     /// The node of what each region is.
     nodes: Items<Option<u32>>,
+}
+
+// By hand, so that a drop is one call: a derived one is written out wherever a `?` may need it, and a proof goes over each part.
+impl Drop for RegionInstances {
+    fn drop(self) {
+        let RegionInstances {
+            of,
+            counts,
+            rows,
+            nodes,
+        } = self;
+        drop(of);
+        drop(counts);
+        drop(rows);
+        drop(nodes);
+    }
 }
 
 impl Model for RegionInstances {

@@ -6,7 +6,6 @@ use st_names::Names;
 use std::sync::Arc;
 
 /// A first program, the sources that changes load in its place, and the plays. Threads share all but the program.
-#[derive(Drop)]
 pub struct Scenario {
     /// The text of the first program: its lines, each followed by LF.
     pub program: Text,
@@ -17,4 +16,20 @@ pub struct Scenario {
     /// For each phase the number of its first play and the number behind its last. In an empty phase both are the number
     /// that the next play has or would have.
     pub phases: Arc<Items<(u32, u32)>>,
+}
+
+// By hand, so that a drop is one call: a derived one is written out wherever a `?` may need it, and a proof goes over each part.
+impl Drop for Scenario {
+    fn drop(self) {
+        let Scenario {
+            program,
+            sources,
+            plays,
+            phases,
+        } = self;
+        drop(program);
+        drop(sources);
+        drop(plays);
+        drop(phases);
+    }
 }

@@ -119,7 +119,6 @@ pub enum DeclaredGlobal {
 }
 
 /// All that a unit declares, each in the order of the text.
-#[derive(Drop)]
 pub struct DeclaredNames {
     /// Entries of TYPE, classes and interfaces.
     pub types: Series<DeclaredType>,
@@ -130,4 +129,21 @@ pub struct DeclaredNames {
     /// The methods of an interface, by its number.
     pub interfaces: Items<Items<DeclaredRoutine>>,
     pub globals: Series<DeclaredGlobal>,
+}
+
+impl Drop for DeclaredNames {
+    fn drop(self) {
+        let DeclaredNames {
+            types,
+            parts,
+            classes,
+            interfaces,
+            globals,
+        } = self;
+        drop(types);
+        drop(parts);
+        drop(classes);
+        drop(interfaces);
+        drop(globals);
+    }
 }

@@ -18,7 +18,6 @@ pub enum ResultType {
 }
 
 /// An input, an output or an in-out.
-#[derive(Drop)]
 pub struct Parameter<V> {
     pub sort: SectionSort,
     /// In upper case.
@@ -27,6 +26,22 @@ pub struct Parameter<V> {
     pub kind: Option<StType>,
     /// What the initial value is worth; None for an in-out, and where it cannot be told.
     pub initial: Option<V>,
+}
+
+// By hand, so that a drop is one call: a derived one is written out wherever a `?` may need it, and a proof goes over each part.
+impl<V: Drop> Drop for Parameter<V> {
+    fn drop(self) {
+        let Parameter {
+            sort,
+            name,
+            kind,
+            initial,
+        } = self;
+        drop(sort);
+        drop(name);
+        drop(kind);
+        drop(initial);
+    }
 }
 
 /// The result type of a method, and its inputs, outputs and in-outs in the order of the text.

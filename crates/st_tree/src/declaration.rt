@@ -36,7 +36,6 @@ pub enum SectionSort {
 }
 
 /// Variables that share what is written behind their names.
-#[derive(Drop)]
 pub struct Item<A> {
     /// Of the first name.
     pub marks: Marks,
@@ -47,8 +46,25 @@ pub struct Item<A> {
     pub initial: Option<Init<A>>,
 }
 
+// By hand, so that a drop is one call: a derived one is written out wherever a `?` may need it, and a proof goes over each part.
+impl<A: Drop> Drop for Item<A> {
+    fn drop(self) {
+        let Item {
+            marks,
+            names,
+            address,
+            kind,
+            initial,
+        } = self;
+        drop(marks);
+        drop(names);
+        drop(address);
+        drop(kind);
+        drop(initial);
+    }
+}
+
 /// A section of variables, with the line of its first word.
-#[derive(Drop)]
 pub struct Section<A> {
     pub line: u32,
     pub sort: SectionSort,
@@ -56,12 +72,38 @@ pub struct Section<A> {
     pub items: Items<Item<A>>,
 }
 
+impl<A: Drop> Drop for Section<A> {
+    fn drop(self) {
+        let Section {
+            line: _,
+            sort,
+            modifiers,
+            items,
+        } = self;
+        drop(sort);
+        drop(modifiers);
+        drop(items);
+    }
+}
+
 /// Fields of a structure that share what is written behind their names.
-#[derive(Drop)]
 pub struct FieldGroup<A> {
     pub names: Items<Name>,
     pub kind: TypeSpec<A>,
     pub initial: Option<Init<A>>,
+}
+
+impl<A: Drop> Drop for FieldGroup<A> {
+    fn drop(self) {
+        let FieldGroup {
+            names,
+            kind,
+            initial,
+        } = self;
+        drop(names);
+        drop(kind);
+        drop(initial);
+    }
 }
 
 /// What a name of TYPE stands for.
@@ -73,14 +115,20 @@ pub enum TypeBody<A> {
 }
 
 /// An entry of TYPE.
-#[derive(Drop)]
 pub struct TypeDecl<A> {
     pub name: Name,
     pub body: TypeBody<A>,
 }
 
+impl<A: Drop> Drop for TypeDecl<A> {
+    fn drop(self) {
+        let TypeDecl { name, body } = self;
+        drop(name);
+        drop(body);
+    }
+}
+
 /// A method of an interface. The line is that of METHOD.
-#[derive(Drop)]
 pub struct Prototype<A> {
     pub line: u32,
     pub name: Name,
@@ -88,8 +136,21 @@ pub struct Prototype<A> {
     pub sections: Items<Section<A>>,
 }
 
+impl<A: Drop> Drop for Prototype<A> {
+    fn drop(self) {
+        let Prototype {
+            line: _,
+            name,
+            result,
+            sections,
+        } = self;
+        drop(name);
+        drop(result);
+        drop(sections);
+    }
+}
+
 /// An interface. The line is that of INTERFACE.
-#[derive(Drop)]
 pub struct InterfaceDecl<A> {
     pub line: u32,
     pub name: Name,
@@ -98,8 +159,21 @@ pub struct InterfaceDecl<A> {
     pub methods: Items<Prototype<A>>,
 }
 
+impl<A: Drop> Drop for InterfaceDecl<A> {
+    fn drop(self) {
+        let InterfaceDecl {
+            line: _,
+            name,
+            bases,
+            methods,
+        } = self;
+        drop(name);
+        drop(bases);
+        drop(methods);
+    }
+}
+
 /// A method of a class or a function block. The line is that of METHOD.
-#[derive(Drop)]
 pub struct Method<A> {
     pub line: u32,
     pub modifiers: Items<Modifier>,
@@ -107,6 +181,24 @@ pub struct Method<A> {
     pub result: Option<TypeSpec<A>>,
     pub sections: Items<Section<A>>,
     pub body: Items<Stmt<A>>,
+}
+
+impl<A: Drop> Drop for Method<A> {
+    fn drop(self) {
+        let Method {
+            line: _,
+            modifiers,
+            name,
+            result,
+            sections,
+            body,
+        } = self;
+        drop(modifiers);
+        drop(name);
+        drop(result);
+        drop(sections);
+        drop(body);
+    }
 }
 
 /// A part of a class.
@@ -124,7 +216,6 @@ pub enum ClassSort {
 }
 
 /// A class or a function block. The line is that of its first word.
-#[derive(Drop)]
 pub struct ClassDecl<A> {
     pub line: u32,
     pub sort: ClassSort,
@@ -138,8 +229,29 @@ pub struct ClassDecl<A> {
     pub body: Items<Stmt<A>>,
 }
 
+impl<A: Drop> Drop for ClassDecl<A> {
+    fn drop(self) {
+        let ClassDecl {
+            line: _,
+            sort,
+            modifiers,
+            name,
+            base,
+            interfaces,
+            members,
+            body,
+        } = self;
+        drop(sort);
+        drop(modifiers);
+        drop(name);
+        drop(base);
+        drop(interfaces);
+        drop(members);
+        drop(body);
+    }
+}
+
 /// A function. The line is that of FUNCTION.
-#[derive(Drop)]
 pub struct FunctionDecl<A> {
     pub line: u32,
     pub name: Name,
@@ -148,11 +260,40 @@ pub struct FunctionDecl<A> {
     pub body: Items<Stmt<A>>,
 }
 
+impl<A: Drop> Drop for FunctionDecl<A> {
+    fn drop(self) {
+        let FunctionDecl {
+            line: _,
+            name,
+            result,
+            sections,
+            body,
+        } = self;
+        drop(name);
+        drop(result);
+        drop(sections);
+        drop(body);
+    }
+}
+
 /// A program. The line is that of PROGRAM.
-#[derive(Drop)]
 pub struct ProgramDecl<A> {
     pub line: u32,
     pub name: Name,
     pub sections: Items<Section<A>>,
     pub body: Items<Stmt<A>>,
+}
+
+impl<A: Drop> Drop for ProgramDecl<A> {
+    fn drop(self) {
+        let ProgramDecl {
+            line: _,
+            name,
+            sections,
+            body,
+        } = self;
+        drop(name);
+        drop(sections);
+        drop(body);
+    }
 }

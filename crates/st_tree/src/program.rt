@@ -54,7 +54,6 @@ impl Drop for Note {
 }
 
 /// A region of the store: a global, or a program instance.
-#[derive(Drop)]
 pub struct RegionDecl {
     pub name: Text,
     /// Whether it is a program instance.
@@ -68,8 +67,24 @@ pub struct RegionDecl {
     pub address: Option<Text>,
 }
 
+impl Drop for RegionDecl {
+    fn drop(self) {
+        let RegionDecl {
+            name,
+            program: _,
+            kind: _,
+            marks,
+            initial,
+            address,
+        } = self;
+        drop(name);
+        drop(marks);
+        drop(initial);
+        drop(address);
+    }
+}
+
 /// A task with its programs, which are numbers of regions.
-#[derive(Drop)]
 pub struct TaskDecl {
     pub name: Text,
     /// In milliseconds.
@@ -78,8 +93,22 @@ pub struct TaskDecl {
     pub programs: Items<u32>,
 }
 
+impl Drop for TaskDecl {
+    fn drop(self) {
+        let TaskDecl {
+            name,
+            interval,
+            priority,
+            programs,
+        } = self;
+        drop(name);
+        drop(interval);
+        drop(priority);
+        drop(programs);
+    }
+}
+
 /// A checked unit: the declarations of each sort in the order of the text, function blocks among the classes.
-#[derive(Drop)]
 pub struct Program {
     pub types: Items<TypeDecl<Note>>,
     pub classes: Items<ClassDecl<Note>>,
@@ -88,4 +117,25 @@ pub struct Program {
     pub programs: Items<ProgramDecl<Note>>,
     pub regions: Items<RegionDecl>,
     pub tasks: Items<TaskDecl>,
+}
+
+impl Drop for Program {
+    fn drop(self) {
+        let Program {
+            types,
+            classes,
+            interfaces,
+            functions,
+            programs,
+            regions,
+            tasks,
+        } = self;
+        drop(types);
+        drop(classes);
+        drop(interfaces);
+        drop(functions);
+        drop(programs);
+        drop(regions);
+        drop(tasks);
+    }
 }

@@ -4,7 +4,6 @@ use crate::op::{Kind, Op};
 use plc_text::{Items, Text};
 
 /// A routine.
-#[derive(Drop)]
 pub struct RoutineCode {
     pub name: Text,
     /// The line of its heading.
@@ -22,6 +21,28 @@ pub struct RoutineCode {
     pub locals: u32,
     /// The most operand kinds of a list.
     pub room: u32,
+}
+
+impl Drop for RoutineCode {
+    fn drop(self) {
+        let RoutineCode {
+            name,
+            line: _,
+            args,
+            rets,
+            ops,
+            lines,
+            kinds,
+            locals: _,
+            room: _,
+        } = self;
+        drop(name);
+        drop(args);
+        drop(rets);
+        drop(ops);
+        drop(lines);
+        drop(kinds);
+    }
 }
 
 /// The routine by which a class implements a method of an interface.
@@ -57,7 +78,6 @@ pub struct MethodRoutine {
 }
 
 /// The code of a program.
-#[derive(Drop)]
 pub struct MachineCode {
     pub routines: Items<RoutineCode>,
     /// For each class the routine of each slot, None for an abstract method.
@@ -66,4 +86,24 @@ pub struct MachineCode {
     pub conforms: Items<Conformance>,
     pub bodies: Items<Body>,
     pub methods: Items<MethodRoutine>,
+}
+
+// By hand, so that a drop is one call: a derived one is written out wherever a `?` may need it, and a proof goes over each part.
+impl Drop for MachineCode {
+    fn drop(self) {
+        let MachineCode {
+            routines,
+            slots,
+            targets,
+            conforms,
+            bodies,
+            methods,
+        } = self;
+        drop(routines);
+        drop(slots);
+        drop(targets);
+        drop(conforms);
+        drop(bodies);
+        drop(methods);
+    }
 }
