@@ -1,6 +1,6 @@
 //! What the regions of a store get from the store before.
 
-ghost use Rattle.std.specs.Prelude.{◌≡◌, ◌&&◌, ◌||◌, not, ℕ, IfOk, OnOk, option_map, slice_get};
+ghost use Rattle.std.specs.Prelude.{◌≡◌, ◌&&◌, ◌||◌, not, ℕ, OnOk, option_map, slice_get};
 ghost use Rattle.st_change.specs.Change as words;
 ghost use Rattle.st_change.specs.Counterpart as counterpart;
 ghost use Rattle.st_change.specs.From as from;
@@ -14,20 +14,10 @@ ghost use Rattle.change_carry.specs.Private.Carry.{member_by, region_by, region_
 use crate::carry::{carry, stays};
 use change_paths::Change;
 use plc_series::Series;
-use plc_text::NoMemory;
+use plc_text::{NoMemory, narrowed};
 use shape_trees::region_shape;
 use st_tree::RegionDecl;
 use value_trees::{Member, Value};
-
-/// A number of 32 bits.
-fn narrowed(number: usize) -> Result<u32, NoMemory>
-    ensures { IfOk result (λ n. n ≡ number) }
-{
-    match u32::try_from(number) {
-        Ok(n) => Ok(n),
-        Err(_) => Err(NoMemory),
-    }
-}
 
 /// The flag of a region.
 fn flag_at(flags: &[bool], region: u32) -> bool

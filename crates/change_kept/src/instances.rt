@@ -12,7 +12,7 @@ ghost use Rattle.change_kept.specs.Private.Instances.{AddsElements, AddsFields, 
 
 use crate::kept::{is_set, number_in};
 use change_paths::Change;
-use plc_text::NoMemory;
+use plc_text::{NoMemory, narrowed};
 use reference_hooks::Instance;
 use shape_trees::{Field, Shape, Shapes};
 use st_tree::{Path, Step, Steps};
@@ -32,16 +32,6 @@ fn is_first(owner: Owner) -> bool
     match owner {
         Owner::First => true,
         Owner::Last => false,
-    }
-}
-
-/// A number of 32 bits.
-fn narrowed(number: usize) -> Result<u32, NoMemory>
-    ensures { IfOk result (λ n. n ≡ number) }
-{
-    match u32::try_from(number) {
-        Ok(n) => Ok(n),
-        Err(_) => Err(NoMemory),
     }
 }
 

@@ -14,7 +14,7 @@ ghost use Rattle.change_names.specs.Private.Classes.{AreOwnPairs, class_by, list
 use crate::own::own_lists;
 use crate::side::Side;
 use change_pairs::{Pair, PairTable, origins};
-use plc_text::{Items, NoMemory, Text};
+use plc_text::{Items, NoMemory, Text, narrowed};
 use st_initial::Variable;
 use st_tree::Program;
 use std::alloc::Global;
@@ -148,16 +148,6 @@ fn count(program: &Program) -> Option<usize>
     ensures { IfSome result (λ n. n ≡ length program.now.classes + length program.now.programs) }
 {
     program.classes.len().checked_add(program.programs.len())
-}
-
-/// A number of 32 bits.
-pub fn narrowed(number: usize) -> Result<u32, NoMemory>
-    ensures { IfOk result (λ n. n ≡ number) }
-{
-    match u32::try_from(number) {
-        Ok(n) => Ok(n),
-        Err(_) => Err(NoMemory),
-    }
 }
 
 /// The variables that each class declares itself with their old names.

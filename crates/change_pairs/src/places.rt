@@ -8,7 +8,7 @@ ghost use Rattle.change_pairs.specs.Variables.{has_name};
 ghost use Rattle.change_pairs.specs.Private.Variables.{has_mark, is_pair_of, comes_from};
 
 use crate::sources::Pair;
-use plc_text::{NoMemory, Text};
+use plc_text::{NoMemory, Text, narrowed};
 use st_initial::Variable;
 use std::alloc::Global;
 use std::collections::HashMap;
@@ -21,15 +21,6 @@ pub fn place_of(table: &Places, name: &Text) -> Option<u32>
     ensures { result ≡ found_in table.now name.now }
 {
     table.get(name).copied()
-}
-
-fn narrowed(place: usize) -> Result<u32, NoMemory>
-    ensures { IfOk result (λ n. n ≡ place) }
-{
-    match u32::try_from(place) {
-        Ok(n) => Ok(n),
-        Err(_) => Err(NoMemory),
-    }
 }
 
 /// Puts a name at a place.

@@ -1,6 +1,6 @@
 //! The regions that each task runs, from one pass over all regions.
 
-ghost use Rattle.std.specs.Prelude.{◌≡◌, ◌<◌, ◌∷◌, [], ◌++◌, suc, map, length, slice_index_or, slice_set, IfOk, OnOk};
+ghost use Rattle.std.specs.Prelude.{◌≡◌, ◌<◌, ◌∷◌, [], ◌++◌, map, length, slice_index_or, slice_set, IfOk, OnOk};
 ghost use Rattle.std.specs.Map.{keys_of};
 ghost use Rattle.plc_text.specs.Words.{same};
 ghost use Rattle.unit_regions.specs.Listed.{region_as};
@@ -8,7 +8,7 @@ ghost use Rattle.checked_tasks.specs.Private.Lists.{Adds, is_run, numbers_in};
 ghost use Rattle.checked_tasks.specs.Private.Groups.{Groups};
 
 use class_rows::number_of;
-use plc_text::{Items, NoMemory, Text};
+use plc_text::{Items, NoMemory, Text, one_more};
 use st_names::Names;
 use std::alloc::Global;
 use unit_regions::UnitRegion;
@@ -36,12 +36,6 @@ fn list_of(alloc: Global, number: u32) -> Result<Items<u32>, NoMemory>
     let mut list = Items::new(alloc);
     list.push(number)?;
     Ok(list)
-}
-
-fn next_number(number: u32) -> Result<u32, NoMemory>
-    ensures { IfOk result (λ next. next ≡ suc number) }
-{
-    number.checked_add(1).ok_or(NoMemory)
 }
 
 impl TaskRegions {
@@ -106,7 +100,7 @@ impl TaskRegions {
         let mut number = 0u32;
         for region in regions {
             groups.add_region(alloc, region, number)?;
-            number = next_number(number)?;
+            number = one_more(number)?;
         }
         Ok(groups)
     }

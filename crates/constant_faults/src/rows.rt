@@ -6,11 +6,11 @@ ghost use Rattle.st_rules.specs.Kinds as kinds;
 ghost use Rattle.st_rules.specs.Expressions as expressions;
 ghost use Rattle.constant_faults.specs.Rows.{Begins, Joins, EndsFront, Looks};
 
-use crate::valued::{Valued, again, kind_in};
+use crate::valued::{Valued, kind_in};
 use constant_values::{Outcome, operated};
 use plc_text::NoMemory;
 use st_operators::{asked_of, is_arithmetic, number_asked, operation_type};
-use st_rules::Asked;
+use st_rules::{Asked, copied};
 use st_tree::Operator;
 use st_types::StType;
 use std::alloc::Global;
@@ -79,7 +79,7 @@ pub fn operand_asked(alloc: Global, row: &Row, asked: &Asked) -> Result<Asked, N
         let a = asked_again(alloc, asked)?;
         Ok(a)
     } else {
-        let told = again(alloc, &row.told)?;
+        let told = copied(alloc, &row.told)?;
         Ok(asked_of(told))
     }
 }
@@ -95,7 +95,7 @@ pub struct Ahead {
 pub fn ended_by(alloc: Global, operand: Valued) -> Result<Ahead, NoMemory>
     ensures { IfOk result (λ a. EndsFront a operand) }
 {
-    let told = again(alloc, &operand.told)?;
+    let told = copied(alloc, &operand.told)?;
     Ok(Ahead {
         asked: asked_of(told),
         kept: Some(operand),

@@ -1,15 +1,13 @@
 //! The type and the value of an expression.
 
-ghost use Rattle.std.specs.Prelude.{◌≡◌, IfOk};
+ghost use Rattle.std.specs.Prelude.{◌≡◌};
 ghost use Rattle.st_rules.specs.Kinds as kinds;
 ghost use Rattle.declared_names.specs.Constants as constants;
 ghost use Rattle.constant_faults.specs.Valued.{Denies, Negates};
 
 use constant_values::{Outcome, complemented, negated};
-use plc_text::NoMemory;
 use st_operators::{negated_type, noted_type};
 use st_types::{Elem, StType};
-use std::alloc::Global;
 
 /// The type of an expression, and what it comes to where it is a constant.
 #[derive(Drop)]
@@ -17,19 +15,6 @@ pub struct Valued {
     /// None where it cannot be told.
     pub told: Option<StType>,
     pub value: Outcome,
-}
-
-/// The same type again.
-pub fn again(alloc: Global, t: &Option<StType>) -> Result<Option<StType>, NoMemory>
-    ensures { IfOk result (λ copy. copy ≡ t.now) }
-{
-    match t {
-        Some(t) => {
-            let copy = t.copy(alloc)?;
-            Ok(Some(copy))
-        }
-        None => Ok(None),
-    }
 }
 
 /// The kind of an operation; one that cannot be told breaks a rule of its own.

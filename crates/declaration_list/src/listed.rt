@@ -7,9 +7,10 @@ ghost use Rattle.declaration_list.specs.Listed.{declared_as};
 ghost use Rattle.declaration_list.specs.Written.{global_of};
 
 use crate::written::{WrittenName, add_sections, item_line, section_names};
+use declared_names::resource_globals;
 use declared_names::st_tree::{
-    ClassDecl, Configuration, Decl, FunctionDecl, InterfaceDecl, Name, ProgramDecl, Resource,
-    Section, TypeDecl,
+    ClassDecl, Configuration, Decl, FunctionDecl, InterfaceDecl, Name, ProgramDecl, Section,
+    TypeDecl,
 };
 use plc_text::NoMemory;
 use std::alloc::Global;
@@ -90,16 +91,6 @@ fn add_section_globals<'a>(
 {
     let names = section_names(alloc, section)?;
     add_globals(list, &names)
-}
-
-/// The sections of globals of a resource.
-fn resource_globals(resource: &Option<Resource<u32>>) -> &[Section<u32>]
-    ensures { result.now ≡ declarations.resource_globals resource.now }
-{
-    match resource {
-        Some(resource) => resource.globals.as_slice(),
-        None => &[],
-    }
 }
 
 /// The globals of a configuration, those of its resource behind its own.

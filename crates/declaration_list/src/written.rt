@@ -5,11 +5,11 @@ ghost use Rattle.declared_names.specs.Declarations as declarations;
 ghost use Rattle.declared_names.specs.Variables as variables;
 ghost use Rattle.declared_names.specs.Variables.{sections_in, sections_written};
 ghost use Rattle.declared_names.specs.Modifiers as modifiers;
-ghost use Rattle.declared_names.specs.Scope as scope;
 ghost use Rattle.declaration_list.specs.Written.{written_in, global_of, written_of, names_from, names_in_item, names_in_section, names_in_sections};
 
-use declared_names::st_tree::{Item, Member, Modifier, Name, Section, SectionSort};
+use declared_names::st_tree::{Item, Member, Modifier, Name, Section};
 use plc_text::NoMemory;
+use st_rules::{is_external, is_instance_sort};
 use std::alloc::Global;
 
 /// A name that is declared, with its section and its item.
@@ -32,21 +32,6 @@ fn has_constant_word(words: &[Modifier]) -> bool
     ensures { result ≡ modifiers.is_constant words.now }
 {
     words.iter().any(|word| is_constant_word(*word))
-}
-
-fn is_external(sort: SectionSort) -> bool
-    ensures { result ≡ scope.is_external sort }
-{
-    matches!(sort, SectionSort::External)
-}
-
-fn is_instance_sort(sort: SectionSort) -> bool
-    ensures { result ≡ scope.is_instance_sort sort }
-{
-    matches!(
-        sort,
-        SectionSort::Var | SectionSort::Input | SectionSort::Output
-    )
 }
 
 impl<'a> WrittenName<'a> {

@@ -1,8 +1,6 @@
 //! The locals of functions and methods.
 
 ghost use Rattle.std.specs.Prelude.{◌≡◌, ◌∷◌, ◌++◌, ◌+◌, List, Some, map, filter, length, IfOk};
-ghost use Rattle.st_rules.specs.Scope as scope;
-ghost use Rattle.st_rules.specs.Signatures as signatures;
 ghost use Rattle.declared_names.specs.Variables as variables;
 ghost use Rattle.constant_values.specs.ValueLaws.{ValuesHaveTypes};
 ghost use Rattle.declaration_list.specs.Written.{written_of};
@@ -14,35 +12,11 @@ use crate::names::{ToldName, told_names};
 use declaration_list::WrittenName;
 use plc_series::Series;
 use plc_text::{NoMemory, Text};
-use st_rules::{Access, DeclaredVariable};
+use st_rules::{Access, DeclaredVariable, is_body_sort, is_instance_sort, is_parameter_sort};
 use st_tree::{Name, Section, SectionSort, Target, TypeSpec};
 use std::alloc::Global;
 use written_types::st_scope::Scope;
 use written_types::type_written;
-
-fn is_parameter_sort(sort: SectionSort) -> bool
-    ensures { result ≡ signatures.is_parameter_sort sort }
-{
-    matches!(
-        sort,
-        SectionSort::Input | SectionSort::Output | SectionSort::InOut
-    )
-}
-
-fn is_body_sort(sort: SectionSort) -> bool
-    ensures { result ≡ scope.is_body_sort sort }
-{
-    matches!(sort, SectionSort::InOut | SectionSort::Temp)
-}
-
-fn is_instance_sort(sort: SectionSort) -> bool
-    ensures { result ≡ scope.is_instance_sort sort }
-{
-    matches!(
-        sort,
-        SectionSort::Var | SectionSort::Input | SectionSort::Output
-    )
-}
 
 fn is_parameter(name: &WrittenName<'_>) -> bool
     ensures { result ≡ variables.is_parameter_written (written_of name.now) }

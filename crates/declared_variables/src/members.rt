@@ -7,11 +7,11 @@ ghost use Rattle.constant_values.specs.ValueLaws.{ValuesHaveTypes};
 ghost use Rattle.untold_names.specs.Untold.{number_behind as behind, untold_members};
 ghost use Rattle.declared_variables.specs.Private.Told as own;
 
-use crate::names::{ToldName, copied, told_members, told_names};
+use crate::names::{ToldName, told_members, told_names};
 use declaration_list::written_names;
 use plc_series::Series;
 use plc_text::NoMemory;
-use st_rules::DeclaredVariable;
+use st_rules::{DeclaredVariable, copied};
 use st_tree::{Member, Section, Target};
 use std::alloc::Global;
 use untold_names::{untold_members, untold_variable};

@@ -9,6 +9,7 @@ ghost use Rattle.declared_variables.specs.Private.Told as own;
 
 use declaration_list::WrittenName;
 use plc_text::NoMemory;
+use st_rules::copied;
 use st_tree::{Item, Member, Name, Section};
 use st_types::StType;
 use std::alloc::Global;
@@ -28,18 +29,6 @@ pub struct ToldName<'a> {
 struct ToldItem {
     kind: Option<StType>,
     value: Option<i128>,
-}
-
-pub fn copied(alloc: Global, kind: &Option<StType>) -> Result<Option<StType>, NoMemory>
-    ensures { IfOk result (λ t. t ≡ kind.now) }
-{
-    match kind {
-        Some(kind) => {
-            let copy = kind.copy(alloc)?;
-            Ok(Some(copy))
-        }
-        None => Ok(None),
-    }
 }
 
 /// What is told of an item, by one of its names.

@@ -14,9 +14,9 @@ use limit_rules::declared_graph::DeclaredGraph;
 use limit_rules::type_sizes::TypeSizes;
 use limit_rules::{Within, too_deep};
 use plc_text::{Code, NoMemory};
-use st_rules::earlier;
+use st_rules::{earlier, is_external};
 use st_scope::Scope;
-use st_tree::{Item, Section, SectionSort, TypeSpec};
+use st_tree::{Item, Section, TypeSpec};
 use std::alloc::Global;
 use type_rules::check_type;
 
@@ -70,12 +70,6 @@ fn list_depth_fault(
         found = earlier(found, one);
     }
     Ok(found)
-}
-
-fn is_external(sort: SectionSort) -> bool
-    ensures { result ≡ scope.is_external sort }
-{
-    matches!(sort, SectionSort::External)
 }
 
 /// E16 at the least line of an item of a section whose type is too deep. Externals are no locals.

@@ -3,7 +3,6 @@
 ghost use Rattle.std.specs.Prelude.{◌≡◌, ℕ, ◌-◌, List, map, flat_map, filter, IfOk};
 ghost use Rattle.st_tree.specs.declared.declaration.Section.{Section as ASection};
 ghost use Rattle.st_rules.specs.Faults.{least};
-ghost use Rattle.st_rules.specs.Scope as scope;
 ghost use Rattle.declared_names.specs.Declarations.{declarations};
 ghost use Rattle.declared_names.specs.Variables.{is_kept_written, is_body_written, sections_written};
 ghost use Rattle.declaration_list.specs.Written.{global_of, written_of, names_in_sections};
@@ -18,16 +17,9 @@ use limit_rules::Within;
 use limit_rules::declared_graph::DeclaredGraph;
 use limit_rules::type_sizes::TypeSizes;
 use plc_text::{Code, NoMemory};
-use st_rules::earlier;
+use st_rules::{earlier, is_body_sort};
 use st_scope::Scope;
-use st_tree::SectionSort;
 use std::alloc::Global;
-
-fn is_body_sort(sort: SectionSort) -> bool
-    ensures { result ≡ scope.is_body_sort sort }
-{
-    matches!(sort, SectionSort::InOut | SectionSort::Temp)
-}
 
 /// Whether the name is that of an in-out or of a temporary variable.
 fn is_of_body(name: &WrittenName<'_>) -> bool

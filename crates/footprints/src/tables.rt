@@ -5,7 +5,7 @@ ghost use Rattle.footprints.specs.Private.Tables.{AreTables};
 
 use crate::holders::holders;
 use crate::inputs::inputs;
-use plc_text::{Items, NoMemory};
+use plc_text::{Items, NoMemory, narrowed};
 use program_tables::ProgramTables;
 use reached_routines::Conformers;
 use region_instances::RegionInstances;
@@ -46,15 +46,6 @@ impl Drop for Tables<'_> {
         drop(conformers);
         drop(holders);
         drop(inputs);
-    }
-}
-
-fn narrowed(number: usize) -> Result<u32, NoMemory>
-    ensures { IfOk result (λ n. n ≡ number) }
-{
-    match u32::try_from(number) {
-        Ok(n) => Ok(n),
-        Err(_) => Err(NoMemory),
     }
 }
 

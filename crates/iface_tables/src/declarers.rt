@@ -6,7 +6,7 @@ ghost use Rattle.st_rules.specs.Interfaces.{interfaces_in, first_with};
 ghost use Rattle.iface_tables.specs.Private.Declarers as declarers;
 
 use class_tables::ClassTables;
-use plc_text::{Items, NoMemory, Text};
+use plc_text::{Items, NoMemory, Text, narrowed};
 use st_rules::PrototypeId;
 use std::alloc::Global;
 use std::collections::HashMap;
@@ -34,15 +34,6 @@ fn note(alloc: Global, table: &mut Declarers, name: &Text, id: PrototypeId) -> R
     ids.push(id)?;
     table.insert(copy, ids)?;
     Ok(())
-}
-
-fn narrowed(place: usize) -> Result<u32, NoMemory>
-    ensures { IfOk result (λ n. n ≡ place) }
-{
-    match u32::try_from(place) {
-        Ok(n) => Ok(n),
-        Err(_) => Err(NoMemory),
-    }
 }
 
 /// Adds the methods of an interface.

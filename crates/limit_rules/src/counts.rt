@@ -4,22 +4,11 @@ ghost use Rattle.std.specs.Prelude.{◌≡◌, length, filter, map};
 ghost use Rattle.declared_names.specs.Variables as variables;
 ghost use Rattle.declaration_list.specs.Written.{written_of};
 ghost use Rattle.st_rules.specs.Faults.{least};
-ghost use Rattle.st_rules.specs.Signatures as signatures;
 ghost use Rattle.st_unit_rules.specs.Limits as limits;
 
 use declaration_list::WrittenName;
 use plc_text::Code;
-use st_rules::when;
-use st_tree::SectionSort;
-
-fn is_parameter_sort(sort: SectionSort) -> bool
-    ensures { result ≡ signatures.is_parameter_sort sort }
-{
-    matches!(
-        sort,
-        SectionSort::Input | SectionSort::Output | SectionSort::InOut
-    )
-}
+use st_rules::{is_parameter_sort, when};
 
 /// Whether the name is that of an input, an output or an in-out.
 fn is_parameter(name: &WrittenName<'_>) -> bool

@@ -2,21 +2,15 @@
 
 ghost use Rattle.std.specs.Prelude.{◌≡◌, ◌++◌, map, IfOk, OnOk};
 ghost use Rattle.st_rules.specs.Classes.{methods_in};
-ghost use Rattle.st_rules.specs.Scope as scope;
 ghost use Rattle.st_unit_rules.specs.NameRules as rules;
 ghost use Rattle.name_spaces.specs.NamesIn.{names_of};
 ghost use Rattle.member_names.specs.Private.Own.{kept};
 
 use declaration_list::{WrittenName, written_members};
 use plc_text::NoMemory;
-use st_tree::{Member, Name, SectionSort};
+use st_rules::is_external;
+use st_tree::{Member, Name};
 use std::alloc::Global;
-
-fn is_external(sort: SectionSort) -> bool
-    ensures { result ≡ scope.is_external sort }
-{
-    matches!(sort, SectionSort::External)
-}
 
 /// Adds the names that are no externals.
 fn add_kept<'a>(list: &mut Vec<&'a Name>, written: &[WrittenName<'a>]) -> Result<(), NoMemory>

@@ -3,7 +3,6 @@
 ghost use Rattle.std.specs.Prelude.{◌≡◌, ◌∷◌, [], ◌++◌, ◌||◌, map, flat_map, ℕ, List, IfOk, OnOk};
 ghost use Rattle.st_tree.specs.declared.name.Name.{Name as AName};
 ghost use Rattle.st_rules.specs.Faults.{earlier, least};
-ghost use Rattle.declared_names.specs.Declarations as declarations;
 ghost use Rattle.st_unit_rules.specs.NameRules as rules;
 ghost use Rattle.st_unit_rules.specs.NameRules.{texts};
 ghost use Rattle.name_spaces.specs.Held.{Holds};
@@ -11,10 +10,11 @@ ghost use Rattle.name_spaces.specs.NamesIn.{names_of};
 ghost use Rattle.name_rules.specs.Configurations.{instance_names, task_names, conversion_of_instance, own_texts};
 
 use crate::spaces::{conversion_fault, space_fault};
+use declared_names::resource_globals;
 use name_spaces::{HeldNames, section_names};
 use plc_text::{Code, NoMemory};
 use st_rules::{earlier, when};
-use st_tree::{Configuration, InstanceSpec, Name, Resource, Section, TaskSpec};
+use st_tree::{Configuration, InstanceSpec, Name, Section, TaskSpec};
 use std::alloc::Global;
 
 /// Holds names.
@@ -37,16 +37,6 @@ fn hold_sections(
     let names = section_names(alloc, sections)?;
     hold_names(alloc, held, &names)?;
     Ok(())
-}
-
-/// The sections of globals of a resource.
-fn resource_globals(resource: &Option<Resource<u32>>) -> &[Section<u32>]
-    ensures { result.now ≡ declarations.resource_globals resource.now }
-{
-    match resource {
-        Some(resource) => resource.globals.as_slice(),
-        None => &[],
-    }
 }
 
 /// The names of a configuration and its globals.

@@ -3,6 +3,7 @@
 #![tactic(auto)]
 
 mod code;
+mod counting;
 mod denied;
 mod fault;
 mod fields;
@@ -14,6 +15,7 @@ mod text;
 mod words;
 
 pub use code::Code;
+pub use counting::{narrowed, one_more};
 pub use denied::Denied;
 pub use fault::{Fault, FaultKind};
 pub use fields::split_field;

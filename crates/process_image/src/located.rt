@@ -9,7 +9,7 @@ ghost use Rattle.process_image.specs.Located.{all_seen};
 ghost use Rattle.process_image.specs.Private.Places.{located_at, place_in};
 
 use call_steps::class_of_kind;
-use plc_text::{NoMemory, Text};
+use plc_text::{NoMemory, Text, narrowed};
 use run_steps::elem_of;
 use st_initial::{Members, Variable};
 use st_tree::{Path, Program, RegionDecl, Step, Steps};
@@ -38,16 +38,6 @@ fn path_in(alloc: Global, region: u32, field: Option<u32>) -> Result<Path, NoMem
             steps.push(Step::Field(k))?;
             Ok(Path { region, steps })
         }
-    }
-}
-
-/// A number of 32 bits.
-fn narrowed(number: usize) -> Result<u32, NoMemory>
-    ensures { IfOk result (λ n. n ≡ number) }
-{
-    match u32::try_from(number) {
-        Ok(n) => Ok(n),
-        Err(_) => Err(NoMemory),
     }
 }
 

@@ -4,7 +4,7 @@ ghost use Rattle.std.specs.Prelude.{◌≡◌, ◌+◌, true, IfOk};
 ghost use Rattle.program_tables.specs.Private.Places as places;
 ghost use Rattle.program_tables.specs.Private.Places.{IsTableOf, AreMemberTables};
 
-use plc_text::{NoMemory, Text};
+use plc_text::{NoMemory, Text, narrowed};
 use st_tree::{ClassDecl, InterfaceDecl, Member, Note, ProgramDecl};
 use std::alloc::Global;
 use std::collections::HashMap;
@@ -17,15 +17,6 @@ pub fn place_of(table: &Places, name: &Text) -> Option<u32>
     ensures { result ≡ places.found_in table.now name.now }
 {
     table.get(name).copied()
-}
-
-fn narrowed(place: usize) -> Result<u32, NoMemory>
-    ensures { IfOk result (λ n. n ≡ place) }
-{
-    match u32::try_from(place) {
-        Ok(n) => Ok(n),
-        Err(_) => Err(NoMemory),
-    }
 }
 
 pub fn class_places(alloc: Global, all: &[ClassDecl<Note>]) -> Result<Places, NoMemory>

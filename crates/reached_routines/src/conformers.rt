@@ -8,7 +8,7 @@ ghost use Rattle.reached_routines.specs.Conformers.{AreConformers, classes_of};
 ghost use Rattle.reached_routines.specs.Families.{family_of};
 ghost use Rattle.reached_routines.specs.Private.Families as words;
 
-use plc_text::{Items, NoMemory};
+use plc_text::{Items, NoMemory, narrowed};
 use program_tables::ProgramTables;
 use st_tree::Program;
 use st_types::StType;
@@ -118,15 +118,6 @@ fn note_class(
     note_chain(alloc, families, chain.as_slice(), class)?;
     note_interfaces(alloc, families, tables, interfaces, class)?;
     Ok(())
-}
-
-fn narrowed(number: usize) -> Result<u32, NoMemory>
-    ensures { IfOk result (λ n. n ≡ number) }
-{
-    match u32::try_from(number) {
-        Ok(n) => Ok(n),
-        Err(_) => Err(NoMemory),
-    }
 }
 
 fn noted(

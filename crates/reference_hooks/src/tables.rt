@@ -9,7 +9,7 @@ ghost use Rattle.program_tables.specs.Routine.{members_of, routine_of};
 ghost use Rattle.reference_hooks.specs.Tables.{AreHooks, AreOwn, id_at};
 ghost use Rattle.reference_hooks.specs.Private.Hooks.{is_hook, when_of};
 
-use plc_text::NoMemory;
+use plc_text::{NoMemory, narrowed};
 use program_tables::RoutineId;
 use st_tree::{Member, Note, Program};
 use std::alloc::Global;
@@ -65,16 +65,6 @@ fn members_at(program: &Program, class: u32) -> &[Member<Note>]
     match program.classes.get(class as usize) {
         Some(decl) => decl.members.as_slice(),
         None => &[],
-    }
-}
-
-/// A number of 32 bits.
-fn narrowed(number: usize) -> Result<u32, NoMemory>
-    ensures { IfOk result (λ n. n ≡ number) }
-{
-    match u32::try_from(number) {
-        Ok(n) => Ok(n),
-        Err(_) => Err(NoMemory),
     }
 }
 

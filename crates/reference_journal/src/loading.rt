@@ -11,7 +11,7 @@ ghost use Rattle.reference_journal.specs.Private.Tables.{AreTables};
 
 use footprints::Footprints;
 use plc_series::Series;
-use plc_text::{Code, Fault, NoMemory, Refusal, Text};
+use plc_text::{Code, Fault, NoMemory, Refusal, Text, narrowed};
 use program_tables::ProgramTables;
 use reference_start::reference_tasks::Loaded;
 use reference_start::{Started, Stopped, start};
@@ -20,16 +20,6 @@ use st_initial::{Members, members_of};
 use st_tree::Program;
 use std::alloc::Global;
 use value_trees::Member;
-
-/// A number of 32 bits.
-pub fn narrowed(number: usize) -> Result<u32, NoMemory>
-    ensures { IfOk result (λ n. n ≡ number) }
-{
-    match u32::try_from(number) {
-        Ok(n) => Ok(n),
-        Err(_) => Err(NoMemory),
-    }
-}
 
 /// For each task of a program the regions that its cycles touch.
 pub fn footprints_of(alloc: Global, program: &Program) -> Result<Vec<Vec<u32>>, NoMemory>

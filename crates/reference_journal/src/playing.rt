@@ -6,11 +6,10 @@ ghost use Rattle.reference_plays.specs.Controller.{IsPlan, controller_of};
 ghost use Rattle.reference_journal.specs.Private.Running.{behind, Enters, IsChangeTo, NextsUnfold, RunsOn, StepOf, StepUnfolds};
 
 use crate::changing::play_change;
-use crate::loading::narrowed;
 use crate::next::{Change, Version};
 use console_command::Checker;
 use cycle_journal::{Answer, Entry, Play};
-use plc_text::{Items, NoMemory, Text};
+use plc_text::{Items, NoMemory, Text, narrowed};
 use reference_plays::{Controller, Plan, play_cycle, play_reset};
 use st_names::Names;
 use std::alloc::Global;

@@ -15,7 +15,7 @@ use crate::controller::{Controller, Plan};
 use crate::held::{is_held, is_same, release, settle, since};
 use cycle_journal::Answer;
 use plc_series::Series;
-use plc_text::{NoMemory, Text};
+use plc_text::{NoMemory, Text, narrowed};
 use reference_cycle::cycle;
 use reference_cycle::reference_tasks::Loaded;
 use st_change::Judge;
@@ -36,16 +36,6 @@ fn task_named(on: &Loaded<'_>, name: &Text) -> Option<usize>
     ensures { result ≡ words.task_named (program_of on.now.tables.now) name.now }
 {
     place_of(on.program.tasks.as_slice(), name)
-}
-
-/// A number of 32 bits.
-fn narrowed(number: usize) -> Result<u32, NoMemory>
-    ensures { IfOk result (λ n. n ≡ number) }
-{
-    match u32::try_from(number) {
-        Ok(n) => Ok(n),
-        Err(_) => Err(NoMemory),
-    }
 }
 
 /// Runs a cycle of a task.

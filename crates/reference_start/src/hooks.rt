@@ -17,10 +17,10 @@ ghost use Rattle.reference_tasks.specs.Loaded.{IsLoaded};
 ghost use Rattle.reference_start.specs.Private.Hooks.{AreInits, RanAs, Stops, all_inits, hook_call, id_at, init_of, inits_along, inits_at, is_init};
 ghost use Rattle.reference_start.specs.Private.Instances.{all_of, instance_of};
 
-use crate::instances::{Instance, narrowed};
+use crate::instances::Instance;
 use call_frames::Given;
 use plc_series::Series;
-use plc_text::{Fault, NoMemory, Text};
+use plc_text::{Fault, NoMemory, Text, narrowed};
 use program_tables::{RoutineId, line, name};
 use reference_tasks::call_steps::given_value;
 use reference_tasks::{Loaded, enter};

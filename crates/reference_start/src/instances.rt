@@ -9,7 +9,7 @@ ghost use Rattle.st_change.specs.Instances.{further};
 ghost use Rattle.region_instances.specs.Instances.{RegionsUnfold};
 ghost use Rattle.reference_start.specs.Private.Instances.{AddsElements, AddsFields, AddsType, AreInstances};
 
-use plc_text::{Items, NoMemory};
+use plc_text::{Items, NoMemory, narrowed};
 use st_initial::{Members, Variable};
 use st_tree::{Path, Program, Step, Steps};
 use st_types::StType;
@@ -35,16 +35,6 @@ fn count(low: &i128, high: &i128) -> Option<usize>
     }
     let last = usize::try_from(high.checked_sub(*low)?).ok()?;
     last.checked_add(1)
-}
-
-/// A number of 32 bits.
-pub fn narrowed(number: usize) -> Result<u32, NoMemory>
-    ensures { IfOk result (λ n. n ≡ number) }
-{
-    match u32::try_from(number) {
-        Ok(n) => Ok(n),
-        Err(_) => Err(NoMemory),
-    }
 }
 
 /// A part of what a path leads to.

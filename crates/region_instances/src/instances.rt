@@ -13,7 +13,7 @@ ghost use Rattle.region_instances.specs.Private.Instances.{AreRows};
 use crate::graph::graph;
 use crate::held::{Counts, node_of};
 use graph_reach::{Row, find_reached};
-use plc_text::{Items, NoMemory};
+use plc_text::{Items, NoMemory, narrowed};
 use st_initial::members_of;
 use st_tree::{Program, RegionDecl, SeenProgram};
 use std::alloc::Global;
@@ -61,23 +61,14 @@ impl Model for RegionInstances {
     ghost invariant = { λ x. AreRows x.of.value x.counts x.rows.items x.nodes };
 }
 
-fn counted(number: usize) -> Result<u32, NoMemory>
-    ensures { IfOk result (λ n. n ≡ number) }
-{
-    match u32::try_from(number) {
-        Ok(n) => Ok(n),
-        Err(_) => Err(NoMemory),
-    }
-}
-
 /// How many nodes there are; their numbers have 32 bits.
 fn counts(classes: usize, structures: usize) -> Result<Counts, NoMemory>
     ensures classes { IfOk result (λ c. c.classes ≡ classes) }
     ensures structures { IfOk result (λ c. c.structures ≡ structures) }
     ensures room { IfOk result (λ c. c.classes + c.structures ≤ 4294967295) }
 {
-    let classes = counted(classes)?;
-    let structures = counted(structures)?;
+    let classes = narrowed(classes)?;
+    let structures = narrowed(structures)?;
     match classes.checked_add(structures) {
         Some(_) => Ok(Counts {
             classes,

@@ -11,7 +11,7 @@ ghost use Rattle.routine_tables.specs.Private.Declared as declared;
 use crate::declared::{body_variables, push_sections};
 use crate::locals::{push_of_body, push_others, push_parameters, push_result};
 use crate::parameters::{Parameter, body_parameters, local_parameters};
-use plc_text::{Items, NoMemory, Text};
+use plc_text::{Items, NoMemory, Text, narrowed};
 use program_tables::{ProgramTables, RoutineId, method_at};
 use st_initial::Variable;
 use st_tree::{Note, Program, Section, TypeSpec};
@@ -22,15 +22,6 @@ use std::alloc::Global;
 pub struct Entry<'p> {
     pub parameters: Items<Parameter>,
     pub locals: Items<Variable<'p>>,
-}
-
-pub fn narrowed(number: usize) -> Result<u32, NoMemory>
-    ensures { IfOk result (λ n. n ≡ number) }
-{
-    match u32::try_from(number) {
-        Ok(n) => Ok(n),
-        Err(_) => Err(NoMemory),
-    }
 }
 
 fn nothing<'p>(alloc: Global) -> Entry<'p>

@@ -6,9 +6,9 @@ ghost use Rattle.program_tables.specs.declared.routine.RoutineId.TheVariants as 
 ghost use Rattle.routine_tables.specs.Parameters.{parameters_of};
 ghost use Rattle.routine_tables.specs.Tables.{IsIn, items_at, entry_at, parameters_at, Holds};
 
-use crate::entry::{Entry, body_entry, function_entry, method_entry, narrowed};
+use crate::entry::{Entry, body_entry, function_entry, method_entry};
 use crate::parameters::Parameter;
-use plc_text::{Items, NoMemory};
+use plc_text::{Items, NoMemory, narrowed};
 use program_tables::{ProgramTables, RoutineId};
 use st_tree::Program;
 use std::alloc::Global;

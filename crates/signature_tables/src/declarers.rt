@@ -7,7 +7,7 @@ ghost use Rattle.st_values.specs.View.{signature_of};
 ghost use Rattle.routine_tables.specs.Parameters.{parameters_of};
 ghost use Rattle.signature_tables.specs.Private.Declarers as declarers;
 
-use plc_text::{Items, NoMemory, Text};
+use plc_text::{Items, NoMemory, Text, narrowed};
 use program_tables::ProgramTables;
 use routine_tables::{Parameter, local_parameters, push_sections};
 use st_tree::{InterfaceDecl, Note, Prototype};
@@ -96,15 +96,6 @@ fn note_all(
         note_method(alloc, table, interface, method)?;
     }
     Ok(())
-}
-
-fn narrowed(place: usize) -> Result<u32, NoMemory>
-    ensures { IfOk result (λ n. n ≡ place) }
-{
-    match u32::try_from(place) {
-        Ok(n) => Ok(n),
-        Err(_) => Err(NoMemory),
-    }
 }
 
 /// The methods of interfaces.

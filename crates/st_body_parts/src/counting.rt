@@ -17,7 +17,7 @@ use plc_text::{Code, NoMemory, Text};
 use st_check_expr::check_whole;
 use st_expr_parts::st_places::{note, root_fault};
 use st_operators::asked_of;
-use st_rules::{Asked, earlier, when};
+use st_rules::{Asked, copied, earlier, when};
 use st_scope::{Meant, Scope};
 use st_tree::{Expr, Note, Root, Target};
 use st_types::StType;
@@ -45,24 +45,12 @@ pub fn meant_type(alloc: Global, m: Option<Meant<'_>>) -> Result<Option<StType>,
 {
     match m {
         Some(Meant::Variable(_, v)) => {
-            let t = again(alloc, &v.kind)?;
+            let t = copied(alloc, &v.kind)?;
             Ok(t)
         }
         Some(Meant::Enumerator(n, _)) => Ok(Some(StType::Enumeration(n))),
         Some(Meant::Method(_)) => Ok(None),
         Some(Meant::Function(_, _)) => Ok(None),
-        None => Ok(None),
-    }
-}
-
-fn again(alloc: Global, t: &Option<StType>) -> Result<Option<StType>, NoMemory>
-    ensures { IfOk result (λ copy. copy ≡ t.now) }
-{
-    match t {
-        Some(t) => {
-            let copy = t.copy(alloc)?;
-            Ok(Some(copy))
-        }
         None => Ok(None),
     }
 }

@@ -24,7 +24,7 @@ use st_expr_parts::st_places::note;
 use st_operators::{
     int_fault, int_type, literal_fault, literal_type, negative_fault, negative_type,
 };
-use st_rules::{Asked, at, earlier, when};
+use st_rules::{Asked, at, copied, earlier, when};
 use st_scope::{Meant, Qualifier, Scope};
 use st_tree::{Label, LabelEnd, Literal, Note, Target, number_of};
 use st_types::{Elem, StType};
@@ -52,25 +52,13 @@ fn negative_target(digits: &str) -> Target
     }
 }
 
-fn again(alloc: Global, t: &Option<StType>) -> Result<Option<StType>, NoMemory>
-    ensures { IfOk result (λ copy. copy ≡ t.now) }
-{
-    match t {
-        Some(t) => {
-            let copy = t.copy(alloc)?;
-            Ok(Some(copy))
-        }
-        None => Ok(None),
-    }
-}
-
 fn check_int(alloc: Global, line: u32, digits: &Text, asked: &Asked) -> Result<CheckedEnd, NoMemory>
     ensures { (s : AScope) → IfOk result (λ c. EndIs c s asked.now (label.Int line digits.now)) }
 {
     let text = digits.as_str();
     let told = int_type(asked, text);
     let least = int_fault(line, text, &told);
-    let shown = again(alloc, &told)?;
+    let shown = copied(alloc, &told)?;
     let own = note(line, shown, int_target(text));
     let copy = Text::copy(alloc, text)?;
     Ok(CheckedEnd {
@@ -91,7 +79,7 @@ fn check_negative(
     let text = digits.as_str();
     let told = negative_type(asked);
     let least = negative_fault(line, text, &told);
-    let shown = again(alloc, &told)?;
+    let shown = copied(alloc, &told)?;
     let own = note(line, shown, negative_target(text));
     let copy = Text::copy(alloc, text)?;
     Ok(CheckedEnd {
@@ -124,7 +112,7 @@ fn check_literal(
 {
     let told = literal_type(kind, literal);
     let least = literal_fault(line, kind, literal);
-    let shown = again(alloc, &told)?;
+    let shown = copied(alloc, &told)?;
     let own = note(line, shown, literal_target(literal));
     let copy = literal.copy(alloc)?;
     Ok(CheckedEnd {

@@ -22,7 +22,7 @@ use crate::names::{NameSet, add, has};
 use crate::parameters::block_parameters;
 use plc_text::{Code, NoMemory, Text};
 use st_places::st_scope::Scope;
-use st_rules::{DeclaredVariable, ResultType, at, earlier, when};
+use st_rules::{DeclaredVariable, ResultType, at, copied, earlier, when};
 use st_tree::SectionSort;
 use st_types::StType;
 use std::alloc::Global;
@@ -312,18 +312,6 @@ pub fn callee_fault(
     let of_callee = earlier(own, in_method);
     let whole = earlier(of_callee, arguments);
     Ok(whole)
-}
-
-fn copied(alloc: Global, t: &Option<StType>) -> Result<Option<StType>, NoMemory>
-    ensures { IfOk result (λ copy. copy ≡ t.now) }
-{
-    match t {
-        Some(t) => {
-            let copy = t.copy(alloc)?;
-            Ok(Some(copy))
-        }
-        None => Ok(None),
-    }
 }
 
 fn outcome_type(alloc: Global, outcome: &ResultType) -> Result<Option<StType>, NoMemory>

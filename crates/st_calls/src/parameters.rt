@@ -9,19 +9,10 @@ ghost use Rattle.st_calls.specs.Parameters.{parameters_of, operand_kind};
 use crate::callee::Callee;
 use plc_text::{NoMemory, Text};
 use st_places::st_scope::Scope;
-use st_rules::{Access, DeclaredVariable};
+use st_rules::{Access, DeclaredVariable, is_parameter_sort};
 use st_tree::{SectionSort, Target};
 use st_types::{Elem, StType};
 use std::alloc::Global;
-
-fn is_parameter_sort(sort: SectionSort) -> bool
-    ensures { result ≡ is_parameter_sort sort }
-{
-    matches!(
-        sort,
-        SectionSort::Input | SectionSort::Output | SectionSort::InOut
-    )
-}
 
 fn is_parameter(v: &DeclaredVariable) -> bool
     ensures { result ≡ calls.is_parameter v.now }

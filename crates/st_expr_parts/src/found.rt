@@ -6,6 +6,7 @@ ghost use Rattle.st_rules.specs.Expressions as expressions;
 
 use plc_text::{Code, NoMemory};
 use st_calls::st_places::note;
+use st_rules::copied;
 use st_tree::{Expr, Note, Target};
 use st_types::StType;
 use std::alloc::Global;
@@ -60,23 +61,10 @@ impl Checked {
     }
 }
 
-/// The same type again.
-pub fn again(alloc: Global, t: &Option<StType>) -> Result<Option<StType>, NoMemory>
-    ensures { IfOk result (λ copy. copy ≡ t.now) }
-{
-    match t {
-        Some(t) => {
-            let copy = t.copy(alloc)?;
-            Ok(Some(copy))
-        }
-        None => Ok(None),
-    }
-}
-
 /// The note of a node of this type that names nothing.
 pub fn noted(alloc: Global, line: u32, t: &Option<StType>) -> Result<Note, NoMemory>
     ensures { IfOk result (λ n. n ≡ expressions.note line t.now target.Nothing) }
 {
-    let copy = again(alloc, t)?;
+    let copy = copied(alloc, t)?;
     Ok(note(line, copy, Target::Nothing))
 }

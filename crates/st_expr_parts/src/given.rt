@@ -10,7 +10,7 @@ ghost use Rattle.st_rules.specs.Expressions as expressions;
 ghost use Rattle.st_expr_parts.specs.Slots.{lent};
 ghost use Rattle.st_expr_parts.specs.Given.{GivesPositional, GivesInput, GivesOutput};
 
-use crate::found::{Checked, again};
+use crate::found::Checked;
 use crate::lists::CheckedArgument;
 use crate::slots::Slot;
 use crate::untyped::line_of;
@@ -22,7 +22,7 @@ use st_calls::st_places::{
 };
 use st_calls::st_scope::Scope;
 use st_calls::{bound_fault, is_assignable, output_fault};
-use st_rules::{Asked, earlier, when};
+use st_rules::{Asked, copied, earlier, when};
 use st_tree::{Argument, Expr, Note, Root, SectionSort, Selector, Target};
 use st_types::StType;
 use std::alloc::Global;
@@ -34,7 +34,7 @@ pub fn asked_for(alloc: Global, m: Option<&Slot>) -> Result<Asked, NoMemory>
 {
     match m {
         Some(m) => {
-            let t = again(alloc, &m.kind)?;
+            let t = copied(alloc, &m.kind)?;
             Ok(asked_of(t))
         }
         None => Ok(Asked::Untold),
@@ -47,7 +47,7 @@ fn matched_type(alloc: Global, m: Option<&Slot>) -> Result<Option<StType>, NoMem
 {
     match m {
         Some(m) => {
-            let t = again(alloc, &m.kind)?;
+            let t = copied(alloc, &m.kind)?;
             Ok(t)
         }
         None => Ok(None),

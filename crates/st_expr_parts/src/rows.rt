@@ -7,12 +7,12 @@ ghost use Rattle.st_rules.specs.Kinds as kinds;
 ghost use Rattle.st_rules.specs.Expressions as expressions;
 ghost use Rattle.st_expr_parts.specs.Rows.{Begins, Joins, Closes, EndsFront, Looks};
 
-use crate::found::{Checked, again, noted};
+use crate::found::{Checked, noted};
 use plc_text::{Code, Items, NoMemory};
 use st_calls::st_operators::{
     asked_of, is_arithmetic, is_number, number_asked, operands_fault, operation_type,
 };
-use st_rules::{Asked, earlier};
+use st_rules::{Asked, copied, earlier};
 use st_tree::{Expr, Note, Operator, Tail};
 use st_types::{Boxed, StType};
 use std::alloc::Global;
@@ -193,7 +193,7 @@ pub fn operand_asked(alloc: Global, row: &Row, asked: &Asked) -> Result<Asked, N
         let a = asked_again(alloc, asked)?;
         Ok(a)
     } else {
-        let told = again(alloc, &row.told)?;
+        let told = copied(alloc, &row.told)?;
         Ok(asked_of(told))
     }
 }
@@ -227,7 +227,7 @@ impl Ahead {
 pub fn ended_by(alloc: Global, operand: Checked) -> Result<Ahead, NoMemory>
     ensures { IfOk result (λ a. EndsFront a operand) }
 {
-    let told = again(alloc, &operand.told)?;
+    let told = copied(alloc, &operand.told)?;
     Ok(Ahead {
         asked: asked_of(told),
         kept: Some(operand),

@@ -5,9 +5,9 @@ ghost use Rattle.st_rules.specs.Calls as calls;
 ghost use Rattle.st_calls.specs.Matching.{matched_of, matched_all};
 ghost use Rattle.st_expr_parts.specs.Slots.{slotted, slots, lent, used};
 
-use crate::found::again;
 use plc_text::NoMemory;
 use st_calls::Matched;
+use st_rules::copied;
 use st_tree::SectionSort;
 use st_types::StType;
 use std::alloc::Global;
@@ -26,7 +26,7 @@ fn slot_of(alloc: Global, m: Option<Matched<'_>>) -> Result<Option<Slot>, NoMemo
 {
     match m {
         Some(m) => {
-            let kind = again(alloc, &m.parameter.kind)?;
+            let kind = copied(alloc, &m.parameter.kind)?;
             Ok(Some(Slot {
                 number: m.number,
                 sort: m.parameter.sort,

@@ -7,7 +7,7 @@ ghost use Rattle.st_initial.specs.Variables.{fields_at};
 ghost use Rattle.st_initial.specs.Members.{Holds, list_at};
 
 use crate::variables::{self, Variable};
-use plc_text::{Items, NoMemory};
+use plc_text::{Items, NoMemory, narrowed};
 use program_tables::ProgramTables;
 use st_tree::Program;
 use std::alloc::Global;
@@ -49,7 +49,7 @@ fn classes(alloc: Global, program: &Program) -> Result<Items<Items<Variable<'_>>
     let tables = ProgramTables::build(alloc, program)?;
     let mut all = Items::new(alloc);
     for c in 0..end {
-        let class = variables::narrowed(c)?;
+        let class = narrowed(c)?;
         let variables = variables::instance_variables(alloc, &tables, program, class)?;
         all.push(Items::from_vec(variables))?;
     }

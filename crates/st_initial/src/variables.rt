@@ -7,7 +7,7 @@ ghost use Rattle.st_values.specs.Shape.{fields_of};
 ghost use Rattle.st_initial.specs.Variables.{variables_of, or_none, fields_at};
 ghost use Rattle.st_initial.specs.Private.Kept.{kept_in};
 
-use plc_text::{NoMemory, Text};
+use plc_text::{NoMemory, Text, narrowed};
 use program_tables::ProgramTables;
 use st_rules::is_constant;
 use st_tree::{
@@ -247,16 +247,6 @@ pub fn instance_variables<'p>(
     let chain = tables.chain(alloc, class)?;
     let variables = declared_along(alloc, program, &chain)?;
     Ok(variables)
-}
-
-/// A number of 32 bits.
-pub fn narrowed(number: usize) -> Result<u32, NoMemory>
-    ensures { IfOk result (λ n. n ≡ number) }
-{
-    match u32::try_from(number) {
-        Ok(n) => Ok(n),
-        Err(_) => Err(NoMemory),
-    }
 }
 
 /// The variables of an instance of a class or a program, those of its bases first.

@@ -10,9 +10,8 @@ ghost use Rattle.st_places.specs.Standing.{parted};
 
 use crate::standing::Part;
 use plc_text::Code;
-use st_rules::{DeclaredRoutine, DeclaredVariable, MethodId, earlier, when};
+use st_rules::{DeclaredRoutine, DeclaredVariable, MethodId, earlier, is_body_sort, when};
 use st_scope::{Meant, Scope};
-use st_tree::SectionSort;
 
 fn has_access(s: &Scope<'_>, routine: Option<&DeclaredRoutine>, class: u32) -> bool
     ensures { result ≡ places.access_of s.now (option_copied routine.entry) class }
@@ -46,12 +45,6 @@ pub fn method_out_of_access(s: &Scope<'_>, line: u32, id: MethodId) -> Option<(C
     ensures { result ≡ least (places.method_out_of_access s.now line id) }
 {
     when(!may_call(s, id), Code::E10, line)
-}
-
-fn is_body_sort(sort: SectionSort) -> bool
-    ensures { result ≡ scope.is_body_sort sort }
-{
-    matches!(sort, SectionSort::InOut | SectionSort::Temp)
 }
 
 fn is_of_body(v: &DeclaredVariable) -> bool

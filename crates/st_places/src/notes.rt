@@ -16,6 +16,7 @@ use crate::places::{begins_with_field, root_standing};
 use crate::roots::is_bare;
 use crate::standing::{Part, Standing, standing_type};
 use plc_text::{NoMemory, Text};
+use st_rules::copied;
 use st_scope::{Meant, Qualifier, Scope};
 use st_tree::{Note, Root, Selector, Target};
 use st_types::{Elem, StType};
@@ -83,18 +84,6 @@ fn note_of_part(alloc: Global, line: u32, p: Option<Part<'_>>) -> Result<Note, N
 {
     let t = part_type(alloc, p)?;
     Ok(note(line, t, part_target(p)))
-}
-
-fn copied(alloc: Global, t: &Option<StType>) -> Result<Option<StType>, NoMemory>
-    ensures { IfOk result (λ copy. copy ≡ t.now) }
-{
-    match t {
-        Some(t) => {
-            let copy = t.copy(alloc)?;
-            Ok(Some(copy))
-        }
-        None => Ok(None),
-    }
 }
 
 fn part_type(alloc: Global, p: Option<Part<'_>>) -> Result<Option<StType>, NoMemory>

@@ -3,6 +3,7 @@
 #![tactic(auto)]
 
 mod asked;
+mod copies;
 mod faults;
 mod ids;
 mod laws;
@@ -11,9 +12,11 @@ mod modifiers;
 mod names;
 mod rows;
 mod signature;
+mod sorts;
 mod widening;
 
 pub use asked::Asked;
+pub use copies::copied;
 pub use faults::{at, earlier, when};
 pub use ids::{MethodId, PrototypeId};
 pub use laws::{class_laws, conformance_laws, fault_laws, interface_laws, signature_laws};
@@ -29,5 +32,6 @@ pub use rows::row_laws;
 pub use signature::{
     Parameter, ResultType, Signature, Signatures, differs_from_hook, is_hook, same_signature,
 };
+pub use sorts::{is_body_sort, is_external, is_instance_sort, is_parameter_sort};
 pub use st_tree;
 pub use widening::widening_laws;

@@ -6,9 +6,9 @@ ghost use Rattle.plc_text.specs.Words.{same};
 ghost use Rattle.st_scope.specs.Private.Places as places;
 ghost use Rattle.st_scope.specs.Private.Enumerators as enumerators;
 
-use crate::places::{Numbers, narrowed};
+use crate::places::Numbers;
 use crate::tables::value_names;
-use plc_text::{NoMemory, Text};
+use plc_text::{NoMemory, Text, narrowed};
 use st_rules::TypeParts;
 use std::alloc::Global;
 use std::collections::HashMap;

@@ -7,9 +7,10 @@ ghost use Rattle.st_rules.specs.Scope.{first_named};
 ghost use Rattle.st_scope.specs.Private.Places as places;
 ghost use Rattle.st_scope.specs.Private.Places.{IsTableOf};
 
-use plc_text::{NoMemory, Text};
-use st_rules::{DeclaredField, DeclaredGlobal, DeclaredType, DeclaredVariable};
-use st_tree::SectionSort;
+use plc_text::{NoMemory, Text, narrowed};
+use st_rules::{
+    DeclaredField, DeclaredGlobal, DeclaredType, DeclaredVariable, is_external, is_instance_sort,
+};
 use std::alloc::Global;
 use std::collections::HashMap;
 
@@ -28,21 +29,6 @@ pub enum Which {
     Inherited,
     /// What each instance has.
     OfInstance,
-}
-
-pub fn is_external(sort: SectionSort) -> bool
-    ensures { result ≡ scope.is_external sort }
-{
-    matches!(sort, SectionSort::External)
-}
-
-fn is_instance_sort(sort: SectionSort) -> bool
-    ensures { result ≡ scope.is_instance_sort sort }
-{
-    matches!(
-        sort,
-        SectionSort::Var | SectionSort::Input | SectionSort::Output
-    )
 }
 
 fn passes(which: Which, v: &DeclaredVariable) -> bool
@@ -81,15 +67,6 @@ pub fn types(alloc: Global, all: &[DeclaredType]) -> Result<Places, NoMemory>
         table.insert(name, i)?;
     }
     Ok(table)
-}
-
-pub fn narrowed(place: usize) -> Result<u32, NoMemory>
-    ensures { IfOk result (λ n. n ≡ place) }
-{
-    match u32::try_from(place) {
-        Ok(n) => Ok(n),
-        Err(_) => Err(NoMemory),
-    }
 }
 
 pub fn fields(alloc: Global, all: &[DeclaredField]) -> Result<Numbers, NoMemory>

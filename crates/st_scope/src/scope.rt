@@ -11,13 +11,13 @@ ghost use Rattle.st_rules.specs.Scope as scope;
 ghost use Rattle.st_scope.specs.Meant.{meant, meaning, qualifier};
 ghost use Rattle.st_scope.specs.Private.Places.{IsTableOf};
 
-use crate::places::{Places, Which, is_external, place_of, variable_there, variables};
+use crate::places::{Places, Which, place_of, variable_there, variables};
 use crate::tables::NameTables;
 use iface_tables::{ClassTables, IfaceTables};
 use plc_text::{NoMemory, Text};
 use st_rules::{
     Access, DeclaredField, DeclaredGlobal, DeclaredRoutine, DeclaredType, DeclaredVariable,
-    MethodId, PrototypeId,
+    MethodId, PrototypeId, is_external,
 };
 use st_types::StType;
 use std::alloc::Global;

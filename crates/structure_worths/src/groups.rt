@@ -3,9 +3,9 @@
 ghost use Rattle.std.specs.Prelude.{IfOk};
 ghost use Rattle.structure_worths.specs.Private.Groups.{WeighsGroup, WeighsGroups};
 
-use crate::unweighed::copied;
 use initial_worths::{ConstantValues, Group, Structure, weigh};
 use plc_text::NoMemory;
+use st_rules::copied;
 use std::alloc::Global;
 use worth_numbers::WorthNumbers;
 

@@ -6,7 +6,7 @@ ghost use Rattle.structure_worths.specs.Private.Counted.{Counts, CountsOne, kind
 
 use initial_worths::{Group, Structure};
 use plc_text::{Items, NoMemory, Text};
-use st_rules::{DeclaredField, TypeParts};
+use st_rules::{DeclaredField, TypeParts, copied};
 use st_tree::Name;
 use st_types::StType;
 use std::alloc::Global;
@@ -16,18 +16,6 @@ use worth_steps::StructureSteps;
 #[derive(Drop)]
 pub struct DeclaredStructure<'a> {
     pub groups: Vec<Group<'a>>,
-}
-
-pub fn copied(alloc: Global, kind: &Option<StType>) -> Result<Option<StType>, NoMemory>
-    ensures { IfOk result (λ t. t ≡ kind.now) }
-{
-    match kind {
-        Some(kind) => {
-            let copy = kind.copy(alloc)?;
-            Ok(Some(copy))
-        }
-        None => Ok(None),
-    }
 }
 
 fn field(alloc: Global, kind: &Option<StType>, name: &Name) -> Result<DeclaredField, NoMemory>

@@ -1,6 +1,6 @@
 //! What is told together.
 
-ghost use Rattle.std.specs.Prelude.{◌≡◌, ◌∷◌, [], ◌++◌, suc, map, IfOk, OnOk};
+ghost use Rattle.std.specs.Prelude.{◌≡◌, ◌∷◌, [], ◌++◌, map, IfOk, OnOk};
 ghost use Rattle.declared_names.specs.Variables.{sections_in};
 ghost use Rattle.declaration_list.specs.Listed.{declared_as};
 ghost use Rattle.declaration_list.specs.Written.{global_of, names_in_sections};
@@ -9,7 +9,7 @@ ghost use Rattle.telling_groups.specs.Groups.{group_of, globals_of, members_of, 
 ghost use Rattle.telling_groups.specs.Private.Listed as listed;
 
 use declaration_list::{Declared, WrittenName, list_declarations, written_members};
-use plc_text::NoMemory;
+use plc_text::{NoMemory, one_more};
 use st_tree::{ClassDecl, Decl, InterfaceDecl, TypeDecl};
 use std::alloc::Global;
 
@@ -36,15 +36,6 @@ struct Next {
     interfaces: u32,
     classes: u32,
     globals: u32,
-}
-
-fn one_more(number: u32) -> Result<u32, NoMemory>
-    ensures { IfOk result (λ n. n ≡ suc number) }
-{
-    match number.checked_add(1) {
-        Some(next) => Ok(next),
-        None => Err(NoMemory),
-    }
 }
 
 /// Adds the constants of an item of a class, where this is the first name of one.

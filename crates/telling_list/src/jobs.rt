@@ -1,6 +1,6 @@
 //! What can be told of a unit, one by one.
 
-ghost use Rattle.std.specs.Prelude.{◌≡◌, ◌∷◌, [], ◌++◌, suc, map, if◌then◌else◌, IfOk, OnOk};
+ghost use Rattle.std.specs.Prelude.{◌≡◌, ◌∷◌, [], ◌++◌, map, if◌then◌else◌, IfOk, OnOk};
 ghost use Rattle.declared_names.specs.Variables.{sections_written, sections_in};
 ghost use Rattle.declaration_list.specs.Listed.{declared_as};
 ghost use Rattle.declaration_list.specs.Written.{written_of};
@@ -8,7 +8,7 @@ ghost use Rattle.telling_list.specs.Jobs as jobs;
 ghost use Rattle.telling_list.specs.Listed.{job_of, numbers_of};
 
 use declaration_list::{Declared, WrittenName, list_declarations, written_members};
-use plc_text::NoMemory;
+use plc_text::{NoMemory, one_more};
 use st_tree::{ClassDecl, Decl, TypeDecl};
 use std::alloc::Global;
 
@@ -35,15 +35,6 @@ struct Next {
     interfaces: u32,
     classes: u32,
     globals: u32,
-}
-
-fn one_more(number: u32) -> Result<u32, NoMemory>
-    ensures { IfOk result (λ n. n ≡ suc number) }
-{
-    match number.checked_add(1) {
-        Some(next) => Ok(next),
-        None => Err(NoMemory),
-    }
 }
 
 /// Adds a name of a class, where it is a constant.

@@ -1,26 +1,17 @@
 //! What was found of a group is told of all that it declares.
 
-ghost use Rattle.std.specs.Prelude.{◌≡◌, suc, IfOk, OnOk};
+ghost use Rattle.std.specs.Prelude.{OnOk};
 ghost use Rattle.st_rules.specs.Telling.{with_global, with_member, with_type};
 ghost use Rattle.st_tree.specs.declared.program.Target.TheVariants as target;
 ghost use Rattle.telling_groups.specs.Groups.{group_of, jobs_of_group};
 ghost use Rattle.told_names.specs.Private.State.{Retold, with_globals, with_jobs, with_members};
 
-use plc_text::NoMemory;
+use plc_text::{NoMemory, one_more};
 use st_scope::NameTables;
 use st_tree::{Name, Target};
 use st_types::StType;
 use std::alloc::Global;
 use telling_groups::Group;
-
-fn one_more(number: u32) -> Result<u32, NoMemory>
-    ensures { IfOk result (λ n. n ≡ suc number) }
-{
-    match number.checked_add(1) {
-        Some(next) => Ok(next),
-        None => Err(NoMemory),
-    }
-}
 
 fn tell_global(
     alloc: Global,

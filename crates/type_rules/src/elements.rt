@@ -11,7 +11,7 @@ ghost use Rattle.declared_names.specs.WrittenTypes as written;
 ghost use Rattle.type_rules.specs.Private.Elements.{ElementChecks, IsElementary, IsNamed, IsReference, is_instance_told};
 
 use plc_text::{Code, NoMemory, Text};
-use st_rules::{earlier, when};
+use st_rules::{copied, earlier, when};
 use st_tree::{Note, SimpleSpec, Target};
 use st_types::{Elem, StType};
 use std::alloc::Global;
@@ -24,19 +24,6 @@ pub struct CheckedElement {
     pub kind: Option<StType>,
     pub least: Option<(Code, u32)>,
     pub element: SimpleSpec<Note>,
-}
-
-/// The same type again, where there is one.
-pub fn copied(alloc: Global, kind: &Option<StType>) -> Result<Option<StType>, NoMemory>
-    ensures { IfOk result (λ t. t ≡ kind.now) }
-{
-    match kind {
-        Some(kind) => {
-            let copy = kind.copy(alloc)?;
-            Ok(Some(copy))
-        }
-        None => Ok(None),
-    }
 }
 
 /// A note with a type and nothing that is meant.

@@ -12,8 +12,9 @@ use crate::levels::{Level, size_of};
 use crate::size::{Size, both, instance, nothing, structure};
 use class_chains::{Cell, ClassChains};
 use plc_text::NoMemory;
-use st_rules::{DeclaredClass, DeclaredField, DeclaredNames, DeclaredVariable, TypeParts};
-use st_tree::SectionSort;
+use st_rules::{
+    DeclaredClass, DeclaredField, DeclaredNames, DeclaredVariable, TypeParts, is_instance_sort,
+};
 use st_types::StType;
 use std::alloc::Global;
 
@@ -45,15 +46,6 @@ fn fields_size(levels: &[Level], fields: &[DeclaredField]) -> Size
         size = with_kind(levels, size, &field.kind);
     }
     size
-}
-
-fn is_instance_sort(sort: SectionSort) -> bool
-    ensures { result ≡ scope.is_instance_sort sort }
-{
-    matches!(
-        sort,
-        SectionSort::Var | SectionSort::Input | SectionSort::Output
-    )
 }
 
 fn is_of_instance(variable: &DeclaredVariable) -> bool

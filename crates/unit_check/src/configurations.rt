@@ -17,9 +17,10 @@ use crate::side::CheckSide;
 use checked_declarations::{Bad, CheckedSoFar, pass_configuration};
 use configuration_rules::{CheckedConfiguration, check_configuration};
 use declaration_list::{WrittenName, written_names};
+use declared_names::resource_globals;
 use global_rules::{CheckedRegions, check_globals};
 use plc_text::{Code, NoMemory};
-use st_tree::{Configuration, InstanceSpec, Name, Resource, Section};
+use st_tree::{Configuration, InstanceSpec, Name, Section};
 use std::alloc::Global;
 use std::slice::from_ref;
 
@@ -48,16 +49,6 @@ pub fn pass_section(
     let names = written_names(alloc, sections)?;
     pass_globals(alloc, graph, &mut p.declarations, &faults, &names)?;
     Ok(())
-}
-
-/// The sections of globals of a resource.
-fn resource_globals(resource: &Option<Resource<u32>>) -> &[Section<u32>]
-    ensures { result.now ≡ declarations.resource_globals resource.now }
-{
-    match resource {
-        Some(resource) => resource.globals.as_slice(),
-        None => &[],
-    }
 }
 
 fn add_names<'a>(list: &mut Vec<WrittenName<'a>>, names: &[WrittenName<'a>]) -> Result<(), NoMemory>

@@ -7,9 +7,8 @@ ghost use Rattle.unit_names.specs.Private.Known.{AddsClass, IsClassAt, IsKnown, 
 
 use crate::known::{Known, scope_of};
 use crate::routines::declared_methods;
-use crate::types::one_more;
 use plc_series::Series;
-use plc_text::NoMemory;
+use plc_text::{NoMemory, one_more};
 use st_rules::{DeclaredClass, DeclaredNames};
 use st_tree::{ClassDecl, Decl};
 use std::alloc::Global;

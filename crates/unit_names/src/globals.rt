@@ -11,22 +11,13 @@ ghost use Rattle.unit_names.specs.Private.Known.{IsKnown, decls_of, names_of, sc
 
 use crate::known::{Known, around, scope_of};
 use crate::routines::declared_routine;
-use crate::types::one_more;
+use declared_names::resource_globals;
 use plc_series::Series;
-use plc_text::NoMemory;
+use plc_text::{NoMemory, one_more};
 use st_rules::DeclaredGlobal;
-use st_tree::{Configuration, Decl, FunctionDecl, Resource, Section};
+use st_tree::{Configuration, Decl, FunctionDecl, Section};
 use std::alloc::Global;
 use told_locals::declared_variables::{add_globals, add_section_globals};
-
-fn resource_globals(resource: &Option<Resource<u32>>) -> &[Section<u32>]
-    ensures { result.now ≡ declarations.resource_globals resource.now }
-{
-    match resource {
-        Some(resource) => resource.globals.as_slice(),
-        None => &[],
-    }
-}
 
 /// Adds the globals of a section; the number of the region behind them.
 fn add_section(

@@ -8,7 +8,7 @@ ghost use Rattle.unit_names.specs.Private.Known.{IsKnown, decls_of, field_of, gr
 
 use crate::known::{Known, scope_of};
 use plc_text::{Items, NoMemory, Text};
-use st_rules::{DeclaredField, TypeParts};
+use st_rules::{DeclaredField, TypeParts, copied};
 use st_tree::{Decl, FieldGroup, Name, TypeBody, TypeDecl};
 use st_types::StType;
 use std::alloc::Global;
@@ -24,18 +24,6 @@ fn texts(alloc: Global, names: &[Name]) -> Result<Items<Text>, NoMemory>
         list.push(text)?;
     }
     Ok(list)
-}
-
-fn copied(alloc: Global, kind: &Option<StType>) -> Result<Option<StType>, NoMemory>
-    ensures { IfOk result (λ t. t ≡ kind.now) }
-{
-    match kind {
-        Some(kind) => {
-            let copy = kind.copy(alloc)?;
-            Ok(Some(copy))
-        }
-        None => Ok(None),
-    }
 }
 
 fn field(alloc: Global, kind: &Option<StType>, name: &Name) -> Result<DeclaredField, NoMemory>

@@ -12,25 +12,12 @@ ghost use Rattle.unit_names.specs.Private.Known.{IsKnown, decls_of, names_of, wi
 use crate::known::{Known, around};
 use plc_series::Series;
 use plc_text::{Items, NoMemory, Text};
-use st_rules::{DeclaredRoutine, DeclaredVariable, ResultType, is_abstract, method_access};
+use st_rules::{DeclaredRoutine, DeclaredVariable, ResultType, copied, is_abstract, method_access};
 use st_tree::{Decl, Member, Method, Modifier, Name, Prototype, Section, SectionSort, TypeSpec};
-use st_types::StType;
 use std::alloc::Global;
 use told_locals::{Around, Declaring, told_locals};
 use told_names::st_scope::Scope;
 use told_names::written_types::type_written;
-
-fn copied(alloc: Global, kind: &Option<StType>) -> Result<Option<StType>, NoMemory>
-    ensures { IfOk result (λ t. t ≡ kind.now) }
-{
-    match kind {
-        Some(kind) => {
-            let copy = kind.copy(alloc)?;
-            Ok(Some(copy))
-        }
-        None => Ok(None),
-    }
-}
 
 fn copied_variable(alloc: Global, variable: &DeclaredVariable) -> Result<DeclaredVariable, NoMemory>
     ensures { IfOk result (λ v. v ≡ variable.now) }

@@ -1,27 +1,18 @@
 //! Types, with what they are.
 
-ghost use Rattle.std.specs.Prelude.{◌≡◌, ◌∷◌, [], ◌++◌, ◌+◌, suc, List, ℕ, length, IfOk, OnOk};
+ghost use Rattle.std.specs.Prelude.{◌≡◌, ◌∷◌, [], ◌++◌, ◌+◌, List, ℕ, length, IfOk, OnOk};
 ghost use Rattle.st_tree.specs.declared.unit.Decl.{Decl as ADecl};
 ghost use Rattle.declared_names.specs.UnitNames as unit_names;
 ghost use Rattle.unit_names.specs.Private.Known.{IsKnown, decls_of, names_of};
 
 use crate::known::{Known, scope_of};
 use plc_series::Series;
-use plc_text::{NoMemory, Text};
+use plc_text::{NoMemory, Text, one_more};
 use st_rules::DeclaredType;
 use st_tree::{Decl, Name, TypeBody, TypeDecl};
 use st_types::StType;
 use std::alloc::Global;
 use told_names::written_types::type_written;
-
-pub fn one_more(number: u32) -> Result<u32, NoMemory>
-    ensures { IfOk result (λ n. n ≡ suc number) }
-{
-    match number.checked_add(1) {
-        Some(next) => Ok(next),
-        None => Err(NoMemory),
-    }
-}
 
 /// What an entry of TYPE is, which has this number.
 fn entry_kind(

@@ -1,13 +1,13 @@
 //! The regions that a task runs.
 
-ghost use Rattle.std.specs.Prelude.{◌≡◌, ◌∷◌, [], ◌++◌, if◌then◌else◌, suc, List, ℕ, map, IfOk, OnOk};
+ghost use Rattle.std.specs.Prelude.{◌≡◌, ◌∷◌, [], ◌++◌, if◌then◌else◌, List, ℕ, map, IfOk, OnOk};
 ghost use Rattle.st_tree.specs.declared.unit.Decl.{Decl};
 ghost use Rattle.st_unit_rules.specs.Checked.{region_of_task};
 ghost use Rattle.unit_regions.specs.Listed.{region_as};
 ghost use Rattle.unit_regions.specs.Private.Run.{is_run};
 
 use crate::listed::UnitRegion;
-use plc_text::{Items, NoMemory, Text};
+use plc_text::{Items, NoMemory, Text, one_more};
 use std::alloc::Global;
 
 /// Whether the region is an instance that runs with the task.
@@ -30,12 +30,6 @@ fn add_run(numbers: &mut Items<u32>, run: bool, number: u32) -> Result<(), NoMem
     Ok(())
 }
 
-fn next_number(number: u32) -> Result<u32, NoMemory>
-    ensures { IfOk result (λ next. next ≡ suc number) }
-{
-    number.checked_add(1).ok_or(NoMemory)
-}
-
 /// The numbers of the program instances that run with the task of this name, rising.
 pub fn regions_of_task(
     alloc: Global,
@@ -49,7 +43,7 @@ pub fn regions_of_task(
     for region in regions {
         let run = is_run(region, task);
         add_run(&mut numbers, run, number)?;
-        number = next_number(number)?;
+        number = one_more(number)?;
     }
     Ok(numbers)
 }

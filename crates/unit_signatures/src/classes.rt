@@ -1,6 +1,6 @@
 //! The signatures of the methods of classes and function blocks.
 
-ghost use Rattle.std.specs.Prelude.{◌≡◌, [], ◌∷◌, ◌++◌, suc, map, IfOk, OnOk};
+ghost use Rattle.std.specs.Prelude.{[], ◌∷◌, ◌++◌, map, IfOk, OnOk};
 ghost use Rattle.st_rules.specs.Classes.{classes_in, methods_in};
 ghost use Rattle.unit_signatures.specs.Private.Adds.{Adds};
 ghost use Rattle.unit_signatures.specs.Private.Parameters.{AreWeighed};
@@ -8,7 +8,7 @@ ghost use Rattle.unit_signatures.specs.Private.Routines as words;
 
 use crate::routines::routine;
 use crate::weighed::Weighed;
-use plc_text::{Items, NoMemory};
+use plc_text::{Items, NoMemory, one_more};
 use st_rules::Signature;
 use st_tree::{Decl, Member};
 use std::alloc::Global;
@@ -59,15 +59,6 @@ fn methods(
         add_member(alloc, weighed, table, &mut list, class, member)?;
     }
     Ok(list)
-}
-
-fn one_more(number: u32) -> Result<u32, NoMemory>
-    ensures { IfOk result (λ n. n ≡ suc number) }
-{
-    match number.checked_add(1) {
-        Some(next) => Ok(next),
-        None => Err(NoMemory),
-    }
 }
 
 /// Adds the methods of the class that a declaration is; the number of the next class.

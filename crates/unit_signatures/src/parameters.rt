@@ -2,7 +2,6 @@
 
 ghost use Rattle.std.specs.Prelude.{◌≡◌, [], ◌++◌, map, flat_map, IfOk, OnOk};
 ghost use Rattle.constant_values.specs.ValueLaws.{ValuesHaveTypes};
-ghost use Rattle.st_rules.specs.Signatures as signatures;
 ghost use Rattle.unit_signatures.specs.Private.Adds.{Adds};
 ghost use Rattle.unit_signatures.specs.Private.Parameters as words;
 
@@ -10,7 +9,7 @@ use crate::weighed::Weighed;
 use initial_worths::weigh;
 use plc_text::{Items, NoMemory, Text};
 use scope_values::ScopeValues;
-use st_rules::{Parameter, is_constant};
+use st_rules::{Parameter, copied, is_constant, is_parameter_sort};
 use st_scope::Scope;
 use st_tree::{Init, Item, Name, Section, SectionSort};
 use st_types::StType;
@@ -20,18 +19,6 @@ use worth_numbers::WorthNumbers;
 
 /// The most steps of containment that a type may take.
 const MOST: u32 = 66;
-
-fn copied(alloc: Global, kind: &Option<StType>) -> Result<Option<StType>, NoMemory>
-    ensures { IfOk result (λ t. t ≡ kind.now) }
-{
-    match kind {
-        Some(kind) => {
-            let copy = kind.copy(alloc)?;
-            Ok(Some(copy))
-        }
-        None => Ok(None),
-    }
-}
 
 fn parameter(
     alloc: Global,
@@ -152,15 +139,6 @@ fn add_items(
         add_item(alloc, weighed, table, s, list, sort, item)?;
     }
     Ok(())
-}
-
-fn is_parameter_sort(sort: SectionSort) -> bool
-    ensures { result ≡ signatures.is_parameter_sort sort }
-{
-    matches!(
-        sort,
-        SectionSort::Input | SectionSort::Output | SectionSort::InOut
-    )
 }
 
 fn has_parameters(section: &Section<u32>) -> bool

@@ -1,7 +1,6 @@
 //! How many variables and locals of its body each class declares by itself.
 
 ghost use Rattle.std.specs.Prelude.{◌≡◌, ◌∷◌, [], ◌++◌, ◌+◌, map, IfOk, OnOk};
-ghost use Rattle.st_rules.specs.Scope as scope;
 ghost use Rattle.declared_names.specs.Variables as variables;
 ghost use Rattle.declaration_list.specs.Written.{written_of};
 ghost use Rattle.untold_names.specs.Untold.{number_behind};
@@ -9,7 +8,8 @@ ghost use Rattle.unit_untold.specs.Private.Counts as counts;
 
 use declaration_list::{WrittenName, written_members};
 use plc_text::NoMemory;
-use st_tree::{ClassDecl, Decl, SectionSort};
+use st_rules::is_body_sort;
+use st_tree::{ClassDecl, Decl};
 use std::alloc::Global;
 
 /// So many variables of an instance, and so many in-outs and temporary variables of a body.
@@ -24,12 +24,6 @@ pub fn nothing() -> Counts
     ensures { result ≡ counts.nothing }
 {
     Counts { kept: 0, body: 0 }
-}
-
-fn is_body_sort(sort: SectionSort) -> bool
-    ensures { result ≡ scope.is_body_sort sort }
-{
-    matches!(sort, SectionSort::InOut | SectionSort::Temp)
 }
 
 /// Whether only the body has it: an in-out or a temporary variable.

@@ -1,6 +1,6 @@
 //! The names of a unit.
 
-ghost use Rattle.std.specs.Prelude.{◌≡◌, ◌∷◌, [], ◌++◌, suc, List, ℕ, IfOk, OnOk};
+ghost use Rattle.std.specs.Prelude.{◌≡◌, ◌∷◌, [], ◌++◌, List, ℕ, IfOk, OnOk};
 ghost use Rattle.st_tree.specs.declared.unit.Decl.{Decl as ADecl};
 ghost use Rattle.st_rules.specs.Classes.{classes_in};
 ghost use Rattle.declared_names.specs.UnitNames.{names_told};
@@ -14,7 +14,7 @@ use crate::sums::{counts_above, totals_of};
 use class_chains::ClassChains;
 use class_chains::class_tables::ClassTables;
 use plc_series::Series;
-use plc_text::NoMemory;
+use plc_text::{NoMemory, one_more};
 use st_rules::{DeclaredClass, DeclaredNames};
 use st_tree::{ClassDecl, Decl, Unit};
 use std::alloc::Global;
@@ -26,15 +26,6 @@ struct Sums<'a> {
     own: &'a [Counts],
     totals: &'a [Counts],
     firsts: &'a [u32],
-}
-
-fn next_number(number: u32) -> Result<u32, NoMemory>
-    ensures { IfOk result (λ n. n ≡ suc number) }
-{
-    match number.checked_add(1) {
-        Some(next) => Ok(next),
-        None => Err(NoMemory),
-    }
 }
 
 /// Adds a class, which has this number.
@@ -66,7 +57,7 @@ fn add_declaration(
     match decl {
         Decl::Class(class) => {
             add_class(alloc, list, sums, number, class)?;
-            let after = next_number(number)?;
+            let after = one_more(number)?;
             Ok(after)
         }
         Decl::Types(_, _) => Ok(number),

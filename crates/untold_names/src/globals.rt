@@ -12,10 +12,11 @@ ghost use Rattle.untold_names.specs.Private.Adds.{AddsGlobals};
 use crate::routines::untold_routine;
 use crate::variables::{number_behind, untold_variable};
 use declaration_list::WrittenName;
+use declared_names::resource_globals;
 use plc_series::Series;
 use plc_text::NoMemory;
 use st_rules::DeclaredGlobal;
-use st_tree::{Configuration, Decl, FunctionDecl, Item, Resource, Section, Target};
+use st_tree::{Configuration, Decl, FunctionDecl, Item, Section, Target};
 use std::alloc::Global;
 
 fn region_target(name: &WrittenName<'_>, region: u32) -> Target
@@ -97,15 +98,6 @@ fn add_sections(
         region = add_section(alloc, list, region, section)?;
     }
     Ok(region)
-}
-
-fn resource_globals(resource: &Option<Resource<u32>>) -> &[Section<u32>]
-    ensures { result.now ≡ declarations.resource_globals resource.now }
-{
-    match resource {
-        Some(resource) => resource.globals.as_slice(),
-        None => &[],
-    }
 }
 
 /// Adds the globals of a configuration, those of its resource behind its own.

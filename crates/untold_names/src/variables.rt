@@ -1,8 +1,6 @@
 //! Variables of which nothing is told.
 
 ghost use Rattle.std.specs.Prelude.{◌≡◌, ℕ, suc, [], ◌∷◌, ◌++◌, List, map, IfOk, OnOk};
-ghost use Rattle.st_rules.specs.Scope as scope;
-ghost use Rattle.st_rules.specs.Signatures as signatures;
 ghost use Rattle.declared_names.specs.Variables as variables;
 ghost use Rattle.declared_names.specs.Variables.{Written};
 ghost use Rattle.declaration_list.specs.Written.{written_of};
@@ -11,7 +9,7 @@ ghost use Rattle.untold_names.specs.Untold as untold;
 use declaration_list::WrittenName;
 use plc_series::Series;
 use plc_text::{NoMemory, Text};
-use st_rules::{Access, DeclaredVariable, written_access};
+use st_rules::{Access, DeclaredVariable, is_body_sort, is_parameter_sort, written_access};
 use st_tree::{Area, SectionSort, Target, area_of};
 use std::alloc::Global;
 
@@ -37,21 +35,6 @@ fn section_access(sort: SectionSort, written: Option<Access>) -> Access
         SectionSort::Var => written.unwrap_or(Access::Protected),
         _ => Access::Public,
     }
-}
-
-fn is_body_sort(sort: SectionSort) -> bool
-    ensures { result ≡ scope.is_body_sort sort }
-{
-    matches!(sort, SectionSort::InOut | SectionSort::Temp)
-}
-
-fn is_parameter_sort(sort: SectionSort) -> bool
-    ensures { result ≡ signatures.is_parameter_sort sort }
-{
-    matches!(
-        sort,
-        SectionSort::Input | SectionSort::Output | SectionSort::InOut
-    )
 }
 
 /// Whether only the body has it: an in-out or a temporary variable.

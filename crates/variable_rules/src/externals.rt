@@ -2,7 +2,6 @@
 
 ghost use Rattle.std.specs.Prelude.{◌≡◌, None, Some, MatchOption};
 ghost use Rattle.st_rules.specs.Faults.{least};
-ghost use Rattle.st_rules.specs.Scope as scope;
 ghost use Rattle.st_rules.specs.Types as types;
 ghost use Rattle.st_unit_rules.specs.VariableRules as rules;
 ghost use Rattle.variable_rules.specs.Private.Externals.{global_in, name_faults, external_faults};
@@ -10,7 +9,7 @@ ghost use Rattle.variable_rules.specs.Private.Externals.{global_in, name_faults,
 use name_rules::st_scope::NameTables;
 use plc_text::{Code, Text};
 use st_rules::{DeclaredGlobal, DeclaredVariable, earlier, when};
-use st_tree::{Name, SectionSort};
+use st_tree::Name;
 use st_types::StType;
 
 /// The variable that a global is.
@@ -80,11 +79,4 @@ pub fn externals_fault(
         found = earlier(found, name_fault(names, line, kind, name));
     }
     found
-}
-
-/// Whether the section is one of externals.
-pub fn is_external(sort: SectionSort) -> bool
-    ensures { result ≡ scope.is_external sort }
-{
-    matches!(sort, SectionSort::External)
 }

@@ -8,13 +8,12 @@ ghost use Rattle.section_rules.specs.Home.{home_of};
 ghost use Rattle.section_rules.specs.Variables.{classes_of};
 ghost use Rattle.variable_rules.specs.Private.Rules.{constant_faults, own_faults, may_be_located};
 
-use crate::externals::is_external;
 use plc_text::Code;
 use section_rules::{
     Home, address_fault, constant_fault, instance_of_abstract_class, instance_out_of_place,
     may_have_address, may_hold_instances,
 };
-use st_rules::{earlier, is_constant};
+use st_rules::{earlier, is_constant, is_external};
 use st_tree::{ClassDecl, Init, Item, Section};
 use st_types::StType;
 

@@ -8,21 +8,10 @@ ghost use Rattle.constant_values.specs.ValueLaws.{ValuesHaveTypes};
 use crate::arrays::in_arrays;
 use constant_rules::st_scope::Scope;
 use plc_text::{NoMemory, Text};
+use st_rules::copied;
 use st_tree::{SimpleSpec, TypeSpec};
 use st_types::StType;
 use std::alloc::Global;
-
-fn copied(alloc: Global, kind: &Option<StType>) -> Result<Option<StType>, NoMemory>
-    ensures { IfOk result (λ t. t ≡ kind.now) }
-{
-    match kind {
-        Some(kind) => {
-            let copy = kind.copy(alloc)?;
-            Ok(Some(copy))
-        }
-        None => Ok(None),
-    }
-}
 
 /// The type that a name means in a type's place, where it is told.
 fn named_type(alloc: Global, s: &Scope<'_>, name: &Text) -> Result<Option<StType>, NoMemory>
