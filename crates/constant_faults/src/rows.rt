@@ -10,7 +10,7 @@ use crate::valued::{Valued, kind_in};
 use constant_values::{Outcome, operated};
 use plc_text::NoMemory;
 use st_operators::{asked_of, is_arithmetic, number_asked, operation_type};
-use st_rules::{Asked, copied};
+use st_rules::{Asked, asked_again, copied};
 use st_tree::Operator;
 use st_types::StType;
 use std::alloc::Global;
@@ -54,19 +54,6 @@ pub fn joined(line: u32, operator: Operator, alone: bool, row: Row, operand: Val
         untyped: stays_untyped(operator, row.untyped, alone),
         told,
         value,
-    }
-}
-
-fn asked_again(alloc: Global, asked: &Asked) -> Result<Asked, NoMemory>
-    ensures { IfOk result (λ copy. copy ≡ asked.now) }
-{
-    match asked {
-        Asked::Wanted(t) => {
-            let copy = t.copy(alloc)?;
-            Ok(Asked::Wanted(copy))
-        }
-        Asked::Anything => Ok(Asked::Anything),
-        Asked::Untold => Ok(Asked::Untold),
     }
 }
 

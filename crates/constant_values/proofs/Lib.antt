@@ -1,4 +1,3 @@
-pub mod Wide
 pub mod OperationLaws
 pub mod NotedLaws
 pub mod TypeLaws

@@ -1,7 +1,6 @@
 //! The values of constant expressions, by their typed trees (IEC 61131-3:2013, 6.5.1.4).
 #![tactic(auto)]
 
-mod arithmetic;
 mod laws;
 mod literals;
 mod noted;

@@ -9,12 +9,11 @@ ghost use Rattle.declared_names.specs.Constants as constants;
 ghost use Rattle.constant_values.specs.Outcome.{outcome};
 ghost use Rattle.constant_values.specs.Private.Operations as own;
 
-use crate::arithmetic::{
-    complement, conjunction, difference, disjunction, exclusive_disjunction, product, quotient,
-    remainder, sum,
-};
 use crate::outcome::Outcome;
-use plc_num::convert;
+use plc_num::{
+    complement, conjunction, convert, difference, disjunction, exclusive_disjunction, product,
+    quotient, remainder, sum,
+};
 use st_tree::{Operator, Target};
 use st_types::Elem;
 

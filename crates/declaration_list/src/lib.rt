@@ -5,4 +5,6 @@ mod listed;
 mod written;
 
 pub use listed::{Declared, list_declarations};
-pub use written::{WrittenName, item_line, written_members, written_names};
+pub use written::{
+    WrittenName, is_of_body, is_parameter, item_line, written_members, written_names,
+};

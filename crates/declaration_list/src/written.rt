@@ -9,7 +9,7 @@ ghost use Rattle.declaration_list.specs.Written.{written_in, global_of, written_
 
 use declared_names::st_tree::{Item, Member, Modifier, Name, Section};
 use plc_text::NoMemory;
-use st_rules::{is_external, is_instance_sort};
+use st_rules::{is_body_sort, is_external, is_instance_sort, is_parameter_sort};
 use std::alloc::Global;
 
 /// A name that is declared, with its section and its item.
@@ -165,4 +165,18 @@ pub fn written_members<'a>(
         add_member(&mut list, member)?;
     }
     Ok(list)
+}
+
+/// Whether the name is that of an input, an output or an in-out.
+pub fn is_parameter(name: &WrittenName<'_>) -> bool
+    ensures { result ≡ variables.is_parameter_written (written_of name.now) }
+{
+    is_parameter_sort(name.section.sort) && !name.is_constant()
+}
+
+/// Whether only the body has it: an in-out or a temporary variable.
+pub fn is_of_body(name: &WrittenName<'_>) -> bool
+    ensures { result ≡ variables.is_body_written (written_of name.now) }
+{
+    is_body_sort(name.section.sort) && !name.is_constant()
 }

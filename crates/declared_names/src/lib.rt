@@ -2,11 +2,13 @@
 //! the scopes of its texts (IEC 61131-3:2013, 6.4 and 6.5).
 #![tactic(auto)]
 
+mod constants;
 mod declarations;
 mod dimensions;
 mod laws;
 
-pub use declarations::resource_globals;
+pub use constants::is_told;
+pub use declarations::{behind_instances, resource_globals};
 pub use dimensions::has_fewer_dimensions;
 pub use laws::constant_laws;
 pub use st_tree;

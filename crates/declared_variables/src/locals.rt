@@ -9,7 +9,7 @@ ghost use Rattle.declared_variables.specs.Private.Told.{ToldName as AToldName};
 
 use crate::members::{declared, number_behind};
 use crate::names::{ToldName, told_names};
-use declaration_list::WrittenName;
+use declaration_list::{WrittenName, is_parameter};
 use plc_series::Series;
 use plc_text::{NoMemory, Text};
 use st_rules::{Access, DeclaredVariable, is_body_sort, is_instance_sort, is_parameter_sort};
@@ -17,12 +17,6 @@ use st_tree::{Name, Section, SectionSort, Target, TypeSpec};
 use std::alloc::Global;
 use written_types::st_scope::Scope;
 use written_types::type_written;
-
-fn is_parameter(name: &WrittenName<'_>) -> bool
-    ensures { result ≡ variables.is_parameter_written (written_of name.now) }
-{
-    is_parameter_sort(name.section.sort) && !name.is_constant()
-}
 
 /// Whether it is a local that is no parameter.
 fn is_other(name: &WrittenName<'_>) -> bool

@@ -5,28 +5,21 @@ ghost use Rattle.st_tree.specs.declared.declaration.Section.{Section as ASection
 ghost use Rattle.st_rules.specs.Faults.{least};
 ghost use Rattle.declared_names.specs.Declarations.{declarations};
 ghost use Rattle.declared_names.specs.Variables.{is_kept_written, is_body_written, sections_written};
-ghost use Rattle.declaration_list.specs.Written.{global_of, written_of, names_in_sections};
+ghost use Rattle.declaration_list.specs.Written.{global_of, names_in_sections};
 ghost use Rattle.st_unit_rules.specs.DeclarationRules as rules;
 ghost use Rattle.st_unit_rules.specs.Limits as limits;
 ghost use Rattle.limit_rules.specs.Sizes.{Measures};
 ghost use Rattle.depth_rules.specs.Private.Variables.{in_program, with_first};
 
 use crate::depths::type_depth_fault;
-use declaration_list::{WrittenName, item_line};
+use declaration_list::{WrittenName, is_of_body, item_line};
 use limit_rules::Within;
 use limit_rules::declared_graph::DeclaredGraph;
 use limit_rules::type_sizes::TypeSizes;
 use plc_text::{Code, NoMemory};
-use st_rules::{earlier, is_body_sort};
+use st_rules::earlier;
 use st_scope::Scope;
 use std::alloc::Global;
-
-/// Whether the name is that of an in-out or of a temporary variable.
-fn is_of_body(name: &WrittenName<'_>) -> bool
-    ensures { result ≡ is_body_written (written_of name.now) }
-{
-    is_body_sort(name.section.sort) && !name.is_constant()
-}
 
 /// What a name of a program breaks, whose heading stands at this line.
 fn kept_name_fault(

@@ -7,9 +7,8 @@ ghost use Rattle.st_unit_rules.specs.Worth as worths;
 ghost use Rattle.given_values.specs.Lent.{lent};
 ghost use Rattle.given_values.specs.Lists as lists;
 
-use crate::wide::wide_number;
 use plc_text::{NoMemory, Text};
-use st_tree::{FieldInit, Init, Part};
+use st_tree::{FieldInit, Init, Part, wide_number};
 use std::alloc::Global;
 
 /// How many elements an array of these bounds has.

@@ -4,7 +4,6 @@
 
 mod given;
 mod laws;
-mod wide;
 
 pub use given::{count, fields_given, given_for, parts_given, rooms, used, value_of};
 pub use laws::element_laws;

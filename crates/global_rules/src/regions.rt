@@ -9,6 +9,7 @@ ghost use Rattle.global_rules.specs.Private.Regions.{IsRegion};
 
 use declaration_list::WrittenName;
 use plc_text::{NoMemory, Text};
+use st_rules::copied_text;
 use st_scope::Scope;
 use st_tree::{Marks, Name, RegionDecl};
 use st_types::{Elem, StType};
@@ -26,18 +27,6 @@ fn noted(alloc: Global, kind: &Option<StType>) -> Result<StType, NoMemory>
             Ok(copy)
         }
         None => Ok(StType::Elementary(Elem::Bool)),
-    }
-}
-
-fn copied_text(alloc: Global, text: &Option<Text>) -> Result<Option<Text>, NoMemory>
-    ensures { IfOk result (λ copy. copy ≡ text.now) }
-{
-    match text {
-        Some(text) => {
-            let copy = Text::copy(alloc, text.as_str())?;
-            Ok(Some(copy))
-        }
-        None => Ok(None),
     }
 }
 

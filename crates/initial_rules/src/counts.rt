@@ -9,10 +9,9 @@ ghost use Rattle.st_unit_rules.specs.Initials as initials;
 ghost use Rattle.initial_rules.specs.Lent.{lent};
 ghost use Rattle.initial_rules.specs.Private.Counts.{room_between};
 
-use crate::wide::wide_number;
 use plc_text::{Code, NoMemory};
 use st_rules::when;
-use st_tree::Part;
+use st_tree::{Part, wide_number};
 use st_types::StType;
 
 /// How many values a part gives; nothing where they take more than 128 bits.

@@ -6,7 +6,6 @@ mod fields;
 mod found;
 mod nodes;
 mod walk;
-mod wide;
 mod worth;
 
 pub use constant_faults;

@@ -6,16 +6,9 @@ ghost use Rattle.declaration_list.specs.Written.{written_of};
 ghost use Rattle.st_rules.specs.Faults.{least};
 ghost use Rattle.st_unit_rules.specs.Limits as limits;
 
-use declaration_list::WrittenName;
+use declaration_list::{WrittenName, is_parameter};
 use plc_text::Code;
-use st_rules::{is_parameter_sort, when};
-
-/// Whether the name is that of an input, an output or an in-out.
-fn is_parameter(name: &WrittenName<'_>) -> bool
-    ensures { result ≡ variables.is_parameter_written (written_of name.now) }
-{
-    is_parameter_sort(name.section.sort) && !name.is_constant()
-}
+use st_rules::when;
 
 fn count_parameters(names: &[WrittenName<'_>]) -> usize
     ensures { result ≡ length (filter (λ w. variables.is_parameter_written (written_of w)) names.now) }

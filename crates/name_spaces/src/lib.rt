@@ -9,4 +9,4 @@ mod words;
 pub use held::HeldNames;
 pub use names_in::{member_names, part_names, prototype_names, section_names};
 pub use twice::{named_fault, twice_fault};
-pub use words::word_twice;
+pub use words::{is_access_word, word_twice};

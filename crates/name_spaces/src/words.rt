@@ -49,7 +49,7 @@ fn has_word_twice(words: &[Modifier]) -> bool
     false
 }
 
-fn is_access_word(word: Modifier) -> bool
+pub fn is_access_word(word: Modifier) -> bool
     ensures { result ≡ is_some (access_word word) }
 {
     match word {

@@ -2,12 +2,17 @@
 //! memory, and each succeeds, but for a divisor of 0.
 #![tactic(auto)]
 
+mod any_size;
 mod arithmetic;
 mod bits;
 mod conversion;
 mod laws;
 mod wrapping;
 
+pub use any_size::{
+    complement, conjunction, difference, disjunction, exclusive_disjunction, product, quotient,
+    remainder, sum,
+};
 pub use arithmetic::{add, div, mul, rem, sub};
 pub use bits::{and, not, or, xor};
 pub use conversion::{compare, convert};

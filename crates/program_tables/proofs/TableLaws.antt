@@ -32,11 +32,13 @@ use Rattle.program_tables.specs.declared.routine.RoutineId.TheVariants as id
 use Rattle.program_tables.specs.Routine.{members_of, method_in, or_empty, routine_of}
 use Rattle.program_tables.specs.Private.Places.{Table, found_in, first_from, IsTableOf, class_name, program_name, interface_name, is_method, method_name, AreMemberTables}
 use Rattle.program_tables.specs.Private.Bases.{base_by, implemented_by, extended_by}
-use Rattle.program_tables.specs.Private.Climb.{any_upward, base_in, own_method, implements_itself}
+use Rattle.st_rules.specs.Upward.{base_in}
+use Rattle.program_tables.specs.Private.Climb.{any_upward, own_method, implements_itself}
 use Rattle.program_tables.specs.Private.Found as found
 use Rattle.program_tables.specs.Private.Tables.{bases_in, implemented_in, extended_in, AreTables}
 use Rattle.program_tables.proofs.PlaceLaws.{shifted, placed, class_found, bases_are, implemented_are, extended_are, table_at, no_table_at}
-use Rattle.program_tables.proofs.ClimbLaws.{upward_is, any_upward_is, climb_same, nearest_same, map_nearest, any_same}
+use Rattle.st_rules.proofs.UpwardLaws.{upward_is, climb_same, nearest_same}
+use Rattle.program_tables.proofs.ClimbLaws.{any_upward_is, map_nearest, any_same}
 use Rattle.program_tables.proofs.ClassLaws.{past_end, within_get, only, class_is_there, count_classes, class_climbs, program_climbs, no_method, no_interface, number_of_name, chain_past, above_conforms}
 use Rattle.program_tables.proofs.RoutineLaws.{below}
 

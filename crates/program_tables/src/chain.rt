@@ -2,7 +2,7 @@
 
 ghost use Rattle.std.specs.Prelude.{◌≡◌, ◌+◌, [], Some, length, IfOk};
 ghost use Rattle.st_rules.specs.Chains.{climb, is_among};
-ghost use Rattle.program_tables.specs.Private.Climb.{base_in};
+ghost use Rattle.st_rules.specs.Upward.{base_in};
 
 use crate::climb::base_of;
 use plc_text::NoMemory;

@@ -4,7 +4,8 @@ ghost use Rattle.std.specs.Prelude.{◌≡◌, ◌+◌, ℕ, nat_eq, length, Som
 ghost use Rattle.std.specs.List.{list_any};
 ghost use Rattle.graph_reach.specs.Reach.{reaches};
 ghost use Rattle.program_tables.specs.Private.Climb as climb;
-ghost use Rattle.program_tables.specs.Private.Climb.{upward, any_upward, base_in};
+ghost use Rattle.st_rules.specs.Upward.{upward, base_in};
+ghost use Rattle.program_tables.specs.Private.Climb.{any_upward};
 
 use crate::places::{Places, place_of};
 use crate::routine::RoutineId;
@@ -37,7 +38,7 @@ fn own_method(methods: &[Places], class: u32, name: &Text) -> Option<RoutineId>
 }
 
 /// The nearest method of the name, from a class upward.
-#[tactic(auto, using(crate::proofs::ClimbLaws::upward_next))]
+#[tactic(auto, using(st_rules::proofs::UpwardLaws::upward_next))]
 pub fn nearest_method(
     bases: &[Option<u32>],
     methods: &[Places],

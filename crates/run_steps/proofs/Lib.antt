@@ -1,3 +1,3 @@
-pub mod Wide
+pub mod Divisors
 pub mod Numbers
 pub mod Operators

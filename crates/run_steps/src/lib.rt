@@ -1,7 +1,6 @@
 //! The small steps of a run: numbers and operators, names and references, arguments and labels.
 #![tactic(auto)]
 
-mod arithmetic;
 mod labels;
 mod operations;
 mod places;

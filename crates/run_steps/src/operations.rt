@@ -9,11 +9,11 @@ ghost use Rattle.value_trees.specs.Value.{value_of};
 ghost use Rattle.run_state.specs.State.{Shows, state_of};
 ghost use Rattle.run_steps.specs.Private.Operations.{or_second};
 
-use crate::arithmetic::{
+use crate::values::{elem_of, is_true, number_in, same_value, truth};
+use plc_num::{
     complement, conjunction, difference, disjunction, exclusive_disjunction, product, quotient,
     remainder, sum,
 };
-use crate::values::{elem_of, is_true, number_in, same_value, truth};
 use plc_text::FaultKind;
 use run_state::{RunState, Stop, fault};
 use st_tree::{Literal, Operator, number_of};

@@ -10,7 +10,7 @@ ghost use Rattle.section_rules.specs.Home.{home_of};
 ghost use Rattle.section_rules.specs.Headings.{access_misplaced, heading_faults};
 
 use crate::home::{Home, may_have, may_have_access};
-use name_spaces::word_twice;
+use name_spaces::{is_access_word, word_twice};
 use plc_text::Code;
 use st_rules::{earlier, when};
 use st_tree::{Modifier, Section};
@@ -20,18 +20,6 @@ fn section_out_of_place(home: Home, section: &Section<u32>) -> Option<(Code, u32
     ensures { result ≡ least (rules.section_out_of_place (home_of home) section.now) }
 {
     when(!may_have(home, section.sort), Code::E10, section.line)
-}
-
-fn is_access_word(word: Modifier) -> bool
-    ensures { result ≡ is_some (access_word word) }
-{
-    match word {
-        Modifier::Public => true,
-        Modifier::Protected => true,
-        Modifier::Private => true,
-        Modifier::Internal => true,
-        _ => false,
-    }
 }
 
 fn has_access_word(words: &[Modifier]) -> bool

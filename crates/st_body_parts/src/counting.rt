@@ -17,9 +17,10 @@ use plc_text::{Code, NoMemory, Text};
 use st_check_expr::check_whole;
 use st_expr_parts::st_places::{note, root_fault};
 use st_operators::asked_of;
+use st_places::meant_target;
 use st_rules::{Asked, copied, earlier, when};
 use st_scope::{Meant, Scope};
-use st_tree::{Expr, Note, Root, Target};
+use st_tree::{Expr, Note, Root};
 use st_types::StType;
 use std::alloc::Global;
 
@@ -52,18 +53,6 @@ pub fn meant_type(alloc: Global, m: Option<Meant<'_>>) -> Result<Option<StType>,
         Some(Meant::Method(_)) => Ok(None),
         Some(Meant::Function(_, _)) => Ok(None),
         None => Ok(None),
-    }
-}
-
-fn meant_target(m: Option<Meant<'_>>) -> Target
-    ensures { result ≡ expressions.meant_target (meant m.entry) }
-{
-    match m {
-        Some(Meant::Variable(_, v)) => v.target,
-        Some(Meant::Method(id)) => Target::Method(id.method),
-        Some(Meant::Function(k, _)) => Target::Function(k),
-        Some(Meant::Enumerator(_, k)) => Target::Enumerator(k),
-        None => Target::Nothing,
     }
 }
 

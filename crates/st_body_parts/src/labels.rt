@@ -24,6 +24,7 @@ use st_expr_parts::st_places::note;
 use st_operators::{
     int_fault, int_type, literal_fault, literal_type, negative_fault, negative_type,
 };
+use st_places::value_target;
 use st_rules::{Asked, at, copied, earlier, when};
 use st_scope::{Meant, Qualifier, Scope};
 use st_tree::{Label, LabelEnd, Literal, Note, Target, number_of};
@@ -133,24 +134,6 @@ fn is_no_constant(m: Option<Meant<'_>>) -> bool
         Some(Meant::Method(_)) => false,
         Some(Meant::Function(_, _)) => false,
         None => false,
-    }
-}
-
-fn value_target(m: Option<Meant<'_>>) -> Target
-    ensures { result ≡ expressions.value_target (meant m.entry) }
-{
-    match m {
-        Some(Meant::Variable(_, v)) => {
-            if v.constant {
-                v.target
-            } else {
-                Target::Nothing
-            }
-        }
-        Some(Meant::Enumerator(_, k)) => Target::Enumerator(k),
-        Some(Meant::Method(_)) => Target::Nothing,
-        Some(Meant::Function(_, _)) => Target::Nothing,
-        None => Target::Nothing,
     }
 }
 

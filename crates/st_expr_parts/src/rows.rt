@@ -10,9 +10,9 @@ ghost use Rattle.st_expr_parts.specs.Rows.{Begins, Joins, Closes, EndsFront, Loo
 use crate::found::{Checked, noted};
 use plc_text::{Code, Items, NoMemory};
 use st_calls::st_operators::{
-    asked_of, is_arithmetic, is_number, number_asked, operands_fault, operation_type,
+    asked_of, is_arithmetic, is_number_type, number_asked, operands_fault, operation_type,
 };
-use st_rules::{Asked, copied, earlier};
+use st_rules::{Asked, asked_again, copied, earlier};
 use st_tree::{Expr, Note, Operator, Tail};
 use st_types::{Boxed, StType};
 use std::alloc::Global;
@@ -83,16 +83,6 @@ fn tail_of(note: Note, operator: Operator, operand: Expr<Note>) -> Tail<Note>
         note,
         operator,
         operand,
-    }
-}
-
-/// A type of integers or bit strings.
-fn is_number_type(t: &StType) -> bool
-    ensures { result ≡ kinds.is_elementary kinds.is_number t.now }
-{
-    match t {
-        StType::Elementary(e) => is_number(*e),
-        _ => false,
     }
 }
 
@@ -169,19 +159,6 @@ pub fn front_asked(untyped: bool, asked: Asked) -> Asked
     ensures { result ≡ expressions.front_asked untyped asked }
 {
     if untyped { asked } else { Asked::Anything }
-}
-
-fn asked_again(alloc: Global, asked: &Asked) -> Result<Asked, NoMemory>
-    ensures { IfOk result (λ copy. copy ≡ asked.now) }
-{
-    match asked {
-        Asked::Wanted(t) => {
-            let copy = t.copy(alloc)?;
-            Ok(Asked::Wanted(copy))
-        }
-        Asked::Anything => Ok(Asked::Anything),
-        Asked::Untold => Ok(Asked::Untold),
-    }
 }
 
 /// What an untyped operand behind a row is asked for.

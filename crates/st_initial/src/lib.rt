@@ -11,5 +11,5 @@ pub use given::{elements_given, fields_given, given_for, number_given};
 pub use members::{Members, members_of};
 pub use region_numbers::initial;
 pub use variables::{
-    Variable, class_variables, instance_variables, kind_of, push_items, structure_fields,
+    Variable, class_variables, instance_variables, kind_of, push_items, push_own, structure_fields,
 };

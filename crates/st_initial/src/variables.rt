@@ -141,7 +141,7 @@ fn push_members<'p>(
 }
 
 /// Adds the variables that a class or a program declares itself.
-fn push_own<'p>(
+pub fn push_own<'p>(
     out: &mut Vec<Variable<'p>>,
     program: &'p Program,
     class: usize,

@@ -9,7 +9,7 @@ ghost use Rattle.st_lexer.specs.Token.{token_view};
 use crate::token::Token;
 use st_tree::Terminal;
 
-fn is_heading(terminal: Terminal) -> bool
+pub fn is_heading(terminal: Terminal) -> bool
     ensures { result ≡ headings.is_heading terminal }
 {
     matches!(
@@ -24,13 +24,13 @@ fn is_heading(terminal: Terminal) -> bool
     )
 }
 
-fn is_modifier(terminal: Terminal) -> bool
+pub fn is_modifier(terminal: Terminal) -> bool
     ensures { result ≡ headings.is_modifier terminal }
 {
     matches!(terminal, Terminal::Abstract | Terminal::Final)
 }
 
-fn is_word(terminal: Terminal) -> bool
+pub fn is_word(terminal: Terminal) -> bool
     ensures { result ≡ headings.is_word terminal }
 {
     matches!(terminal, Terminal::Word)

@@ -11,7 +11,7 @@ mod reach;
 mod source;
 mod token;
 
-pub use headings::declaration;
+pub use headings::{declaration, is_heading, is_modifier, is_word};
 pub use lexeme::{Lexeme, lexemes};
 pub use lexer::Lexer;
 pub use marks::{is_init_on_change, is_no_copy, old_name};

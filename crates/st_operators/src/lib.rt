@@ -19,4 +19,4 @@ pub use operators::{
     index_fault, negated_fault, negated_type, noted_fault, noted_type, operands_fault,
     operation_type,
 };
-pub use types::{element_type, holds_instances, is_reference, suits_operator};
+pub use types::{element_type, holds_instances, is_number_type, is_reference, suits_operator};

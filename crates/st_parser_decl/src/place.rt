@@ -7,37 +7,9 @@ ghost use Rattle.st_lexer.specs.Lexeme.{lexemes_of};
 ghost use Rattle.st_parser_expr.specs.declared.stop.Stop.TheVariants.{NoMemory};
 
 use plc_text::{Text, line_of};
-use st_lexer::Lexeme;
+use st_lexer::{Lexeme, is_heading, is_modifier, is_word};
 use st_parser_expr::{Cursor, Stop};
-use st_tree::Terminal;
 use std::alloc::Global;
-
-fn is_heading(terminal: Terminal) -> bool
-    ensures { result ≡ headings.is_heading terminal }
-{
-    matches!(
-        terminal,
-        Terminal::Type
-            | Terminal::Interface
-            | Terminal::Class
-            | Terminal::FunctionBlock
-            | Terminal::Function
-            | Terminal::Program
-            | Terminal::Configuration
-    )
-}
-
-fn is_modifier(terminal: Terminal) -> bool
-    ensures { result ≡ headings.is_modifier terminal }
-{
-    matches!(terminal, Terminal::Abstract | Terminal::Final)
-}
-
-fn is_word(terminal: Terminal) -> bool
-    ensures { result ≡ headings.is_word terminal }
-{
-    matches!(terminal, Terminal::Word)
-}
 
 fn no_name(alloc: Global) -> Result<Text, Stop>
     ensures ok { IfOk result (λ name. name ≡ codes "-") }

@@ -15,7 +15,9 @@ mod standing;
 
 pub use conversion::conversion_named;
 pub use fixed::{is_fixed, target_fault};
-pub use notes::{note, note_of, part_note, standing_note, typed_root, whole_target};
+pub use notes::{
+    meant_target, note, note_of, part_note, standing_note, typed_root, value_target, whole_target,
+};
 pub use parts::part_of;
 pub use places::{placed, root_standing, selected};
 pub use roots::{is_last, root_fault, root_line, selectors_fault, whole_fault};

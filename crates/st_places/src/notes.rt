@@ -99,7 +99,7 @@ fn part_type(alloc: Global, p: Option<Part<'_>>) -> Result<Option<StType>, NoMem
     }
 }
 
-fn meant_target(m: Option<Meant<'_>>) -> Target
+pub fn meant_target(m: Option<Meant<'_>>) -> Target
     ensures { result ≡ expressions.meant_target (meant m.entry) }
 {
     match m {
@@ -112,7 +112,7 @@ fn meant_target(m: Option<Meant<'_>>) -> Target
 }
 
 /// What a whole place is noted to mean that is a bare name: a constant or an enumerator its value.
-fn value_target(m: Option<Meant<'_>>) -> Target
+pub fn value_target(m: Option<Meant<'_>>) -> Target
     ensures { result ≡ expressions.value_target (meant m.entry) }
 {
     match m {

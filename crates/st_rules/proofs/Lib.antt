@@ -2,6 +2,7 @@ pub mod Booleans
 pub mod ListLaws
 pub mod Numbers
 pub mod ChainLaws
+pub mod UpwardLaws
 pub mod LeadsLaws
 pub mod TypeLaws
 pub mod FaultLaws

@@ -2,6 +2,7 @@ pub mod Faults
 pub mod Numbered
 pub mod Named
 pub mod Chains
+pub mod Upward
 pub mod Modifiers
 pub mod Classes
 pub mod Interfaces

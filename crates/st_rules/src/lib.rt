@@ -15,8 +15,8 @@ mod signature;
 mod sorts;
 mod widening;
 
-pub use asked::Asked;
-pub use copies::copied;
+pub use asked::{Asked, asked_again};
+pub use copies::{copied, copied_text, texts};
 pub use faults::{at, earlier, when};
 pub use ids::{MethodId, PrototypeId};
 pub use laws::{class_laws, conformance_laws, fault_laws, interface_laws, signature_laws};

@@ -2,7 +2,7 @@
 use Rattle.std.proofs.Common.{◌≡◌, ◌<◌, ℕ, zero, suc, ◌+◌, ◌-◌, nat_eq, Bool, true, false, List, [], ◌∷◌, ◌++◌, Option, Some, None, refl, sym, ap, ◌∙◌, arith, length, add-one, append_assoc}
 use Rattle.std.specs.Prelude.{if◌then◌else◌, ◌||◌, Result, Ok, Err, IfOk}
 use Rattle.st_rules.specs.Chains.{is_among, climb}
-use Rattle.st_scope.specs.Private.Climb.{base_in}
+use Rattle.st_rules.specs.Upward.{base_in}
 use Rattle.st_scope.specs.Private.Chain.{Held, is_held}
 
 -- what stands in the chain so far, with what is climbed on from the next, is the whole chain

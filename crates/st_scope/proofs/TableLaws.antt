@@ -17,13 +17,14 @@ use Rattle.st_scope.specs.Tables.{Told, Holds, Knows}
 use Rattle.st_scope.specs.Private.Bases.{base_number, bases_by, is_derived}
 use Rattle.st_scope.specs.declared.places.Which.TheVariants.{All, Inherited, OfInstance}
 use Rattle.st_scope.specs.Private.Places.{items_at, passes}
-use Rattle.st_scope.specs.Private.Climb.{upward, base_in, own, own_with_class}
+use Rattle.st_rules.specs.Upward.{upward, base_in}
+use Rattle.st_scope.specs.Private.Climb.{own, own_with_class}
 use Rattle.st_rules.specs.Named.{first_place}
 use Rattle.st_rules.specs.Numbered.{each_numbered}
 use Rattle.st_scope.specs.Private.Enumerators.{first_having, last_having, lone}
 use Rattle.st_scope.proofs.EnumeratorLaws.{enumerator_alone}
 use Rattle.st_scope.proofs.PlaceLaws.{all_pass}
-use Rattle.st_scope.proofs.ClimbLaws.{upward_is, climb_same, nearest_same}
+use Rattle.st_rules.proofs.UpwardLaws.{upward_is, climb_same, nearest_same}
 
 -- the class of a variable that a class has
 abbrev pub some_class : ℕ × DeclaredVariable → Option ℕ × DeclaredVariable

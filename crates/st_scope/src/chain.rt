@@ -2,7 +2,7 @@
 
 ghost use Rattle.std.specs.Prelude.{◌≡◌, ℕ, ◌+◌, ◌||◌, nat_eq, [], Some, length, IfOk, OnOk};
 ghost use Rattle.st_rules.specs.Chains.{climb};
-ghost use Rattle.st_scope.specs.Private.Climb.{base_in};
+ghost use Rattle.st_rules.specs.Upward.{base_in};
 ghost use Rattle.st_scope.specs.Private.Chain.{is_held};
 
 use crate::climb::base_of;

@@ -3,7 +3,8 @@
 ghost use Rattle.std.specs.Prelude.{◌≡◌, ◌+◌, ℕ, Bool, length, IfOk, MatchOption, None, Some, slice_get};
 ghost use Rattle.st_rules.specs.declared.names.DeclaredVariable.{DeclaredVariable as Variable};
 ghost use Rattle.st_scope.specs.Private.Places as places;
-ghost use Rattle.st_scope.specs.Private.Climb.{upward, base_in, variables_at, AreTablesOf, own, own_with_class};
+ghost use Rattle.st_rules.specs.Upward.{upward, base_in};
+ghost use Rattle.st_scope.specs.Private.Climb.{variables_at, AreTablesOf, own, own_with_class};
 
 use crate::places::{Places, Which, variable_at, variables};
 use plc_text::{NoMemory, Text};
@@ -69,7 +70,7 @@ pub fn own_variable<'a>(
 }
 
 /// The nearest variable of the name, from a class upward, with the class that declares it.
-#[tactic(auto, using(crate::proofs::ClimbLaws::upward_next))]
+#[tactic(auto, using(st_rules::proofs::UpwardLaws::upward_next))]
 pub fn nearest_variable<'a>(
     bases: &[Option<u32>],
     tables: &[Places],

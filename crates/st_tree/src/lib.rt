@@ -19,6 +19,7 @@ mod terminal;
 mod token;
 mod type_spec;
 mod unit;
+mod wide;
 
 pub use address::{Area, Width, area_of, bit_of, index_of, width_of};
 pub use configuration::{Configuration, InstanceSpec, Resource, Setting, SettingValue, TaskSpec};
@@ -40,3 +41,4 @@ pub use terminal::{Terminal, is_keyword, keyword, symbol, terminal_laws, termina
 pub use token::{TokenKind, token_laws};
 pub use type_spec::{ArraySpec, Bounds, SimpleSpec, TypeSpec};
 pub use unit::{Decl, Unit};
+pub use wide::wide_number;

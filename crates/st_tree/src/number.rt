@@ -8,7 +8,7 @@ use plc_text::{is_digit, opens};
 
 /// The value of a digit; that of `A` is 10.
 #[inline]
-fn digit_value(digit: u8) -> u8
+pub(crate) fn digit_value(digit: u8) -> u8
     ensures { result ≡ number.digit_value digit }
 {
     if is_digit(digit) {

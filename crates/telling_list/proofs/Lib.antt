@@ -1,2 +1,1 @@
 pub mod JobLaws
-pub mod ListLaws

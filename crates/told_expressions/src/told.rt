@@ -8,29 +8,11 @@ ghost use Rattle.st_places.specs.Meant.{qualifier};
 ghost use Rattle.declared_names.specs.Constants as constants;
 ghost use Rattle.told_expressions.specs.Private.Parts as own;
 
+use declared_names::is_told;
 use plc_text::Text;
 use st_places::st_scope::{Qualifier, Scope};
 use st_places::whole_target;
-use st_tree::{Argument, Expr, Place, Tail, Target};
-
-/// Whether a name means a constant whose value is told, or an enumerator.
-fn is_told(target: Target) -> bool
-    ensures { result ≡ constants.is_told target }
-{
-    match target {
-        Target::Constant(_) => true,
-        Target::Enumerator(_) => true,
-        Target::Nothing => false,
-        Target::Local(_) => false,
-        Target::Variable(_) => false,
-        Target::Field(_) => false,
-        Target::Region(_) => false,
-        Target::Function(_) => false,
-        Target::Method(_) => false,
-        Target::Conversion => false,
-        Target::Parameter(_) => false,
-    }
-}
+use st_tree::{Argument, Expr, Place, Tail};
 
 fn is_place_told(s: &Scope<'_>, place: &Place<u32>) -> bool
     ensures { result ≡ own.place_is_told s.now (place_of place.now) }

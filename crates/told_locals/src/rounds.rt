@@ -3,7 +3,6 @@
 ghost use Rattle.std.specs.Prelude.{◌≡◌, true, map, IfOk};
 ghost use Rattle.declared_names.specs.UnitNames as unit_names;
 ghost use Rattle.declared_names.specs.UnitNames.{forgotten};
-ghost use Rattle.declared_names.specs.Constants as constants;
 ghost use Rattle.declaration_list.specs.Written.{global_of, names_in_sections};
 ghost use Rattle.told_laws.specs.LocalLaws.{SoundLocals};
 ghost use Rattle.told_laws.specs.TellingLaws.{NoValueLeft};
@@ -14,6 +13,7 @@ ghost use Rattle.told_locals.specs.Private.Telling.{IsTold, is_left};
 use crate::around::{Around, Declaring, declared_with};
 use crate::telling::{Told, tell_each};
 use declaration_list::{WrittenName, written_names};
+use declared_names::is_told;
 use declared_variables::st_scope::local_places;
 use plc_series::Series;
 use plc_text::{NoMemory, Text};
@@ -115,24 +115,6 @@ fn told_in_order(
     let first = untold(alloc, around, of)?;
     let told = tell_each(alloc, around, of, names, first, &order)?;
     Ok(told.known)
-}
-
-fn is_told(target: Target) -> bool
-    ensures { result ≡ constants.is_told target }
-{
-    match target {
-        Target::Constant(_) => true,
-        Target::Enumerator(_) => true,
-        Target::Nothing => false,
-        Target::Local(_) => false,
-        Target::Variable(_) => false,
-        Target::Field(_) => false,
-        Target::Region(_) => false,
-        Target::Function(_) => false,
-        Target::Method(_) => false,
-        Target::Conversion => false,
-        Target::Parameter(_) => false,
-    }
 }
 
 /// Whether the value of a constant is told in the second alone.

@@ -2,7 +2,6 @@
 
 ghost use Rattle.std.specs.Prelude.{◌≡◌, IfOk};
 ghost use Rattle.st_tree.specs.Expression.{expression_of};
-ghost use Rattle.declared_names.specs.WrittenTypes as written;
 ghost use Rattle.type_rules.specs.Private.Bounds.{bound_found, lies_above, IsBound, BoundChecks, IsDimension, DimensionChecks};
 
 use initial_rules::constant_faults::{Constant, check_constant};
@@ -11,8 +10,8 @@ use plc_text::{Code, NoMemory};
 use st_operators::{index_fault, is_number};
 use st_rules::{Asked, earlier, when};
 use st_tree::{Bounds, Expr, Note};
-use st_types::StType;
 use std::alloc::Global;
+use written_types::is_number_type;
 use written_types::st_expr_parts::line_of;
 use written_types::st_scope::Scope;
 use written_types::told_expressions::names_are_told;
@@ -33,17 +32,6 @@ pub struct CheckedDimension {
     pub high: Option<i128>,
     pub least: Option<(Code, u32)>,
     pub bounds: Bounds<Note>,
-}
-
-/// Whether the type is one of integers or bit strings.
-fn is_number_type(kind: &Option<StType>) -> bool
-    ensures { result ≡ written.is_number_type kind.now }
-{
-    match kind {
-        Some(StType::Elementary(e)) => is_number(*e),
-        Some(_) => false,
-        None => false,
-    }
 }
 
 /// What a bound comes to, where it is an integer or a bit string, and all its names are told.

@@ -15,6 +15,7 @@ use st_rules::{copied, earlier, when};
 use st_tree::{Note, SimpleSpec, Target};
 use st_types::{Elem, StType};
 use std::alloc::Global;
+use written_types::named_type;
 use written_types::st_places::note;
 use written_types::st_scope::Scope;
 
@@ -32,19 +33,6 @@ pub fn noted(alloc: Global, line: u32, kind: &Option<StType>) -> Result<Note, No
 {
     let kind = copied(alloc, kind)?;
     Ok(note(line, kind, Target::Nothing))
-}
-
-/// The type that a name means in a type's place, where it is told.
-fn named_type(alloc: Global, s: &Scope<'_>, name: &Text) -> Result<Option<StType>, NoMemory>
-    ensures { IfOk result (λ t. t ≡ written.named_type s.now name.now) }
-{
-    match s.type_named(name) {
-        Some(found) => {
-            let kind = copied(alloc, &found.kind)?;
-            Ok(kind)
-        }
-        None => Ok(None),
-    }
 }
 
 fn reference_to(kind: &Option<StType>) -> Option<StType>

@@ -11,7 +11,7 @@ ghost use Rattle.unit_names.specs.Private.Known.{IsKnown, decls_of, names_of, sc
 
 use crate::known::{Known, around, scope_of};
 use crate::routines::declared_routine;
-use declared_names::resource_globals;
+use declared_names::{behind_instances, resource_globals};
 use plc_series::Series;
 use plc_text::{NoMemory, one_more};
 use st_rules::DeclaredGlobal;
@@ -71,18 +71,6 @@ fn add_configuration(
         resource_globals(&configuration.resource),
     )?;
     Ok(all)
-}
-
-fn behind_instances(region: u32, count: usize) -> Result<u32, NoMemory>
-    ensures { IfOk result (λ n. n ≡ region + count) }
-{
-    let Ok(count) = u32::try_from(count) else {
-        return Err(NoMemory);
-    };
-    match region.checked_add(count) {
-        Some(next) => Ok(next),
-        None => Err(NoMemory),
-    }
 }
 
 fn add_function(

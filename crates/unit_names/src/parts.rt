@@ -8,23 +8,12 @@ ghost use Rattle.unit_names.specs.Private.Known.{IsKnown, decls_of, field_of, gr
 
 use crate::known::{Known, scope_of};
 use plc_text::{Items, NoMemory, Text};
-use st_rules::{DeclaredField, TypeParts, copied};
+use st_rules::{DeclaredField, TypeParts, copied, texts};
 use st_tree::{Decl, FieldGroup, Name, TypeBody, TypeDecl};
 use st_types::StType;
 use std::alloc::Global;
 use told_names::st_scope::Scope;
 use told_names::written_types::type_written;
-
-fn texts(alloc: Global, names: &[Name]) -> Result<Items<Text>, NoMemory>
-    ensures { IfOk result (λ list. list ≡ map (λ n. n.text) names.now) }
-{
-    let mut list = Items::new(alloc);
-    for name in names {
-        let text = Text::copy(alloc, name.text.as_str())?;
-        list.push(text)?;
-    }
-    Ok(list)
-}
 
 fn field(alloc: Global, kind: &Option<StType>, name: &Name) -> Result<DeclaredField, NoMemory>
     ensures { IfOk result (λ f. f ≡ field_of kind.now name.now) }

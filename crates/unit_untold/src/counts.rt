@@ -1,14 +1,12 @@
 //! How many variables and locals of its body each class declares by itself.
 
 ghost use Rattle.std.specs.Prelude.{◌≡◌, ◌∷◌, [], ◌++◌, ◌+◌, map, IfOk, OnOk};
-ghost use Rattle.declared_names.specs.Variables as variables;
 ghost use Rattle.declaration_list.specs.Written.{written_of};
 ghost use Rattle.untold_names.specs.Untold.{number_behind};
 ghost use Rattle.unit_untold.specs.Private.Counts as counts;
 
-use declaration_list::{WrittenName, written_members};
+use declaration_list::{WrittenName, is_of_body, written_members};
 use plc_text::NoMemory;
-use st_rules::is_body_sort;
 use st_tree::{ClassDecl, Decl};
 use std::alloc::Global;
 
@@ -24,13 +22,6 @@ pub fn nothing() -> Counts
     ensures { result ≡ counts.nothing }
 {
     Counts { kept: 0, body: 0 }
-}
-
-/// Whether only the body has it: an in-out or a temporary variable.
-fn is_of_body(name: &WrittenName<'_>) -> bool
-    ensures { result ≡ variables.is_body_written (written_of name.now) }
-{
-    is_body_sort(name.section.sort) && !name.is_constant()
 }
 
 /// One more, where it counts.

@@ -12,7 +12,7 @@ ghost use Rattle.untold_names.specs.Private.Adds.{AddsGlobals};
 use crate::routines::untold_routine;
 use crate::variables::{number_behind, untold_variable};
 use declaration_list::WrittenName;
-use declared_names::resource_globals;
+use declared_names::{behind_instances, resource_globals};
 use plc_series::Series;
 use plc_text::NoMemory;
 use st_rules::DeclaredGlobal;
@@ -113,18 +113,6 @@ fn add_configuration(
     let own = add_sections(alloc, list, first, configuration.globals.as_slice())?;
     let all = add_sections(alloc, list, own, resource_globals(&configuration.resource))?;
     Ok(all)
-}
-
-fn behind_instances(region: u32, count: usize) -> Result<u32, NoMemory>
-    ensures { IfOk result (λ n. n ≡ region + count) }
-{
-    let Ok(count) = u32::try_from(count) else {
-        return Err(NoMemory);
-    };
-    match region.checked_add(count) {
-        Some(next) => Ok(next),
-        None => Err(NoMemory),
-    }
 }
 
 fn add_function(

@@ -6,7 +6,7 @@ ghost use Rattle.untold_names.specs.Untold as untold;
 
 use plc_series::Series;
 use plc_text::{Items, NoMemory, Text};
-use st_rules::{DeclaredField, DeclaredType, TypeParts};
+use st_rules::{DeclaredField, DeclaredType, TypeParts, texts};
 use st_tree::{Decl, FieldGroup, Name, TypeBody, TypeDecl};
 use std::alloc::Global;
 
@@ -68,17 +68,6 @@ pub fn untold_types(alloc: Global, decls: &[Decl<u32>]) -> Result<Series<Declare
 }
 
 // ---- what entries have
-
-fn texts(alloc: Global, names: &[Name]) -> Result<Items<Text>, NoMemory>
-    ensures { IfOk result (λ list. list ≡ map (λ n. n.text) names.now) }
-{
-    let mut list = Items::new(alloc);
-    for name in names {
-        let text = Text::copy(alloc, name.text.as_str())?;
-        list.push(text)?;
-    }
-    Ok(list)
-}
 
 fn untold_field(alloc: Global, name: &Name) -> Result<DeclaredField, NoMemory>
     ensures { IfOk result (λ f. f ≡ untold.untold_field name.now) }

@@ -6,10 +6,10 @@ ghost use Rattle.declared_names.specs.Variables.{Written};
 ghost use Rattle.declaration_list.specs.Written.{written_of};
 ghost use Rattle.untold_names.specs.Untold as untold;
 
-use declaration_list::WrittenName;
+use declaration_list::{WrittenName, is_of_body, is_parameter};
 use plc_series::Series;
 use plc_text::{NoMemory, Text};
-use st_rules::{Access, DeclaredVariable, is_body_sort, is_parameter_sort, written_access};
+use st_rules::{Access, DeclaredVariable, written_access};
 use st_tree::{Area, SectionSort, Target, area_of};
 use std::alloc::Global;
 
@@ -35,20 +35,6 @@ fn section_access(sort: SectionSort, written: Option<Access>) -> Access
         SectionSort::Var => written.unwrap_or(Access::Protected),
         _ => Access::Public,
     }
-}
-
-/// Whether only the body has it: an in-out or a temporary variable.
-fn is_of_body(name: &WrittenName<'_>) -> bool
-    ensures { result ≡ variables.is_body_written (written_of name.now) }
-{
-    is_body_sort(name.section.sort) && !name.is_constant()
-}
-
-/// Whether it is an input, an output or an in-out.
-pub fn is_parameter(name: &WrittenName<'_>) -> bool
-    ensures { result ≡ variables.is_parameter_written (written_of name.now) }
-{
-    is_parameter_sort(name.section.sort) && !name.is_constant()
 }
 
 /// The number behind, where this one is taken.

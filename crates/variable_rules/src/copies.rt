@@ -2,7 +2,7 @@
 
 ghost use Rattle.std.specs.Prelude.{◌≡◌, IfOk};
 
-use plc_text::{Items, NoMemory, Text};
+use plc_text::{Items, NoMemory};
 use st_tree::Name;
 use std::alloc::Global;
 
@@ -16,17 +16,4 @@ pub fn copied_names(alloc: Global, names: &[Name]) -> Result<Items<Name>, NoMemo
         copy.push(one)?;
     }
     Ok(copy)
-}
-
-/// The same text again, where there is one.
-pub fn copied_text(alloc: Global, text: &Option<Text>) -> Result<Option<Text>, NoMemory>
-    ensures { IfOk result (λ copy. copy ≡ text.now) }
-{
-    match text {
-        Some(text) => {
-            let copy = Text::copy(alloc, text.as_str())?;
-            Ok(Some(copy))
-        }
-        None => Ok(None),
-    }
 }

@@ -7,7 +7,7 @@ ghost use Rattle.section_rules.specs.Variables.{classes_of};
 ghost use Rattle.variable_rules.specs.Items.{ChecksItem};
 ghost use Rattle.variable_rules.specs.Private.Items.{external_if, IsHead, IsItem};
 
-use crate::copies::{copied_names, copied_text};
+use crate::copies::copied_names;
 use crate::externals::externals_fault;
 use crate::given::{CheckedGiven, check_given};
 use crate::rules::own_fault;
@@ -15,7 +15,7 @@ use declaration_list::item_line;
 use name_rules::st_scope::{NameTables, Scope};
 use plc_text::{Code, Items, NoMemory, Text};
 use section_rules::Home;
-use st_rules::{earlier, is_external};
+use st_rules::{copied_text, earlier, is_external};
 use st_tree::{ClassDecl, Item, Marks, Name, Note, Section};
 use st_types::StType;
 use std::alloc::Global;

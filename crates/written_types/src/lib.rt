@@ -12,5 +12,5 @@ pub use constant_values;
 pub use constants::constant_of;
 pub use st_check_expr::st_expr_parts;
 pub use told_expressions;
-pub use types::type_written;
-pub use values::{bound_value, told_value};
+pub use types::{named_type, type_written};
+pub use values::{bound_value, is_number_type, told_value};

@@ -14,7 +14,7 @@ use st_types::StType;
 use std::alloc::Global;
 
 /// The type that a name means in a type's place, where it is told.
-fn named_type(alloc: Global, s: &Scope<'_>, name: &Text) -> Result<Option<StType>, NoMemory>
+pub fn named_type(alloc: Global, s: &Scope<'_>, name: &Text) -> Result<Option<StType>, NoMemory>
     ensures { IfOk result (λ t. t ≡ written.named_type s.now name.now) }
 {
     match s.type_named(name) {

@@ -75,7 +75,7 @@ pub fn told_value(
 }
 
 /// Whether the type is one of integers or bit strings.
-fn is_number_type(kind: &Option<StType>) -> bool
+pub fn is_number_type(kind: &Option<StType>) -> bool
     ensures { result ≡ written.is_number_type kind.now }
 {
     match kind {

@@ -1,26 +1,16 @@
 -- Searches upward from a class, by a count of steps.
-use Rattle.std.specs.Prelude.{ℕ, zero, suc, Bool, false, ◌||◌, List, Option, None, option_map, option_and_then, slice_get}
+use Rattle.std.specs.Prelude.{ℕ, zero, suc, Bool, false, ◌||◌, List, Option, option_map, option_and_then, slice_get}
 use Rattle.std.specs.List.{list_any}
-use Rattle.st_rules.specs.Chains.{◌or_else◌}
 use Rattle.st_rules.specs.Numbered.{passes_if_there}
 use Rattle.graph_reach.specs.Reach.{reaches}
 use Rattle.program_tables.specs.declared.routine.RoutineId.{RoutineId}
 use Rattle.program_tables.specs.declared.routine.RoutineId.TheVariants as id
 use Rattle.program_tables.specs.Private.Places.{Table, found_in}
 
--- from one upward, so many at most
-abbrev pub upward : {X : Type 0} → (ℕ → Option X) → (ℕ → Option ℕ) → ℕ → ℕ → Option X
-upward has above zero c = None
-upward has above (suc n) c = has c or_else option_and_then (upward has above n) (above c)
-
 -- whether one of them passes
 abbrev pub any_upward : (ℕ → Bool) → (ℕ → Option ℕ) → ℕ → ℕ → Bool
 any_upward test above zero c = false
 any_upward test above (suc n) c = test c || passes_if_there (any_upward test above n) (above c)
-
--- the number of the base, where a class has one that is found
-abbrev pub base_in : List (Option ℕ) → ℕ → Option ℕ
-base_in bases c = option_and_then (λ b. b) (slice_get bases c)
 
 -- the method of the name that a class declares itself
 abbrev pub own_method : List Table → List ℕ → ℕ → Option RoutineId

@@ -9,7 +9,8 @@ use Rattle.program_tables.specs.declared.parts.Tables.{Tables}
 use Rattle.program_tables.specs.declared.routine.RoutineId.{RoutineId}
 use Rattle.program_tables.specs.declared.routine.RoutineId.TheVariants as id
 use Rattle.program_tables.specs.Private.Places.{found_in}
-use Rattle.program_tables.specs.Private.Climb.{upward, any_upward, base_in, own_method, implements_itself}
+use Rattle.st_rules.specs.Upward.{upward, base_in}
+use Rattle.program_tables.specs.Private.Climb.{any_upward, own_method, implements_itself}
 
 -- how many classes and programs there are
 abbrev pub count : Program → ℕ

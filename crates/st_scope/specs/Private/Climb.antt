@@ -1,19 +1,9 @@
--- A search upward from a class, by a count of steps, and tables of the variables of classes.
-use Rattle.std.specs.Prelude.{ℕ, zero, suc, Bool, List, filter, Option, None, option_map, option_and_then, slice_get}
+-- The variables of classes, and tables of them.
+use Rattle.std.specs.Prelude.{ℕ, Bool, List, filter, Option, option_map}
 use Rattle.st_rules.specs.declared.names.DeclaredVariable.{DeclaredVariable}
 use Rattle.st_rules.specs.declared.names.DeclaredClass.{DeclaredClass}
-use Rattle.st_rules.specs.Chains.{◌or_else◌}
 use Rattle.st_rules.specs.Scope.{first_named}
 use Rattle.st_scope.specs.Private.Places.{Table, AreTables, items_at}
-
--- from one upward, so many at most
-abbrev pub upward : {X : Type 0} → (ℕ → Option X) → (ℕ → Option ℕ) → ℕ → ℕ → Option X
-upward has above zero c = None
-upward has above (suc n) c = has c or_else option_and_then (upward has above n) (above c)
-
--- the number of the base, where a class has one that is found
-abbrev pub base_in : List (Option ℕ) → ℕ → Option ℕ
-base_in bases c = option_and_then (λ b. b) (slice_get bases c)
 
 abbrev pub variables_at : List DeclaredClass → ℕ → List DeclaredVariable
 variables_at classes c = items_at (λ class. class.variables) classes c

@@ -1,6 +1,6 @@
 use Rattle.std.proofs.Common.{◌≡◌, ◌+◌, length, true, false, sym, ap, ◌∙◌}
 use Rattle.st_rules.specs.Chains.{is_among}
-use Rattle.program_tables.specs.Private.Climb.{base_in}
+use Rattle.st_rules.specs.Upward.{base_in}
 use Rattle.program_tables.proofs.ChainLaws.{climb_none, climb_back, climb_on}
 use Rattle.program_tables.proofs.chain.chain_of.Goals as goal
 

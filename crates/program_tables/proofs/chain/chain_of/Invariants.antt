@@ -1,5 +1,5 @@
 use Rattle.std.proofs.Common.{◌+◌, length}
-use Rattle.program_tables.specs.Private.Climb.{base_in}
+use Rattle.st_rules.specs.Upward.{base_in}
 use Rattle.program_tables.proofs.ChainLaws.{Climbing}
 use Rattle.program_tables.proofs.chain.chain_of.Given as goal
 

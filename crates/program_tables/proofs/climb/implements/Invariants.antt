@@ -1,5 +1,6 @@
 use Rattle.std.proofs.Common.{◌≡◌, ◌+◌, length}
-use Rattle.program_tables.specs.Private.Climb.{any_upward, base_in, implements_itself}
+use Rattle.st_rules.specs.Upward.{base_in}
+use Rattle.program_tables.specs.Private.Climb.{any_upward, implements_itself}
 use Rattle.program_tables.proofs.climb.implements.Given as goal
 
 -- what is left to be searched gives what all gives

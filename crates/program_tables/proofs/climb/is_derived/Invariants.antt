@@ -1,5 +1,6 @@
 use Rattle.std.proofs.Common.{◌≡◌, ◌+◌, nat_eq, length}
-use Rattle.program_tables.specs.Private.Climb.{any_upward, base_in}
+use Rattle.st_rules.specs.Upward.{base_in}
+use Rattle.program_tables.specs.Private.Climb.{any_upward}
 use Rattle.program_tables.proofs.climb.is_derived.Given as goal
 
 -- what is left to be searched gives what all gives

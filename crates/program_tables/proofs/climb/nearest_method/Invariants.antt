@@ -1,5 +1,6 @@
 use Rattle.std.proofs.Common.{◌≡◌, ◌+◌, length}
-use Rattle.program_tables.specs.Private.Climb.{upward, base_in, own_method}
+use Rattle.st_rules.specs.Upward.{upward, base_in}
+use Rattle.program_tables.specs.Private.Climb.{own_method}
 use Rattle.program_tables.proofs.climb.nearest_method.Given as goal
 
 -- what is left to be searched gives what all gives

@@ -6,7 +6,7 @@ use Rattle.st_values.specs.Value.{number}
 use Rattle.st_meaning.specs.State.{Done}
 use Rattle.value_trees.specs.Value.{value-Number}
 use Rattle.run_state.specs.State.{state_of}
-use Rattle.run_steps.proofs.Wide.{divides}
+use Rattle.run_steps.proofs.Divisors.{divides}
 use Rattle.run_steps.proofs.operations.divide.Goals as goal
 
 pub returns : goal.returns

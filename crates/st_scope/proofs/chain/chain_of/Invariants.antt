@@ -1,6 +1,6 @@
 use Rattle.std.proofs.Common.{◌≡◌, ℕ, ◌+◌, ◌++◌, List, [], length, Some}
 use Rattle.st_rules.specs.Chains.{is_among, climb}
-use Rattle.st_scope.specs.Private.Climb.{base_in}
+use Rattle.st_rules.specs.Upward.{base_in}
 use Rattle.st_scope.specs.Private.Chain.{is_held}
 use Rattle.st_scope.proofs.ChainLaws.{ClimbsOn}
 use Rattle.st_scope.proofs.chain.chain_of.Given as goal

@@ -1,6 +1,7 @@
 use Rattle.std.proofs.Common.{◌≡◌, ◌+◌, Bool, length}
 use Rattle.st_rules.specs.declared.names.DeclaredVariable.{DeclaredVariable}
-use Rattle.st_scope.specs.Private.Climb.{upward, base_in, AreTablesOf, own_with_class}
+use Rattle.st_rules.specs.Upward.{upward, base_in}
+use Rattle.st_scope.specs.Private.Climb.{AreTablesOf, own_with_class}
 use Rattle.st_scope.proofs.climb.nearest_variable.Given as goal
 
 -- what is left to be searched gives what all gives

@@ -1,7 +1,7 @@
 use Rattle.std.proofs.Common.{◌+◌, ℕ, List, Option, [], Some, ap, ◌∙◌, length}
 use Rattle.st_rules.specs.Chains.{climb}
 use Rattle.st_scope.specs.Tables.{Told}
-use Rattle.st_scope.specs.Private.Climb.{base_in}
+use Rattle.st_rules.specs.Upward.{base_in}
 use Rattle.st_scope.proofs.ChainLaws.{if_ok_along}
 use Rattle.st_scope.proofs.TableLaws.{chain_is}
 use Rattle.st_scope.proofs.tables.NameTables.chain.Goals as goal

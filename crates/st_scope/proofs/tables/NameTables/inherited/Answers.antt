@@ -4,7 +4,8 @@ use Rattle.st_rules.specs.declared.names.DeclaredVariable.{DeclaredVariable}
 use Rattle.st_scope.specs.Tables.{Told}
 use Rattle.st_scope.specs.declared.places.Which.TheVariants.{Inherited}
 use Rattle.st_scope.specs.Private.Places.{passes}
-use Rattle.st_scope.specs.Private.Climb.{upward, base_in, own_with_class}
+use Rattle.st_rules.specs.Upward.{upward, base_in}
+use Rattle.st_scope.specs.Private.Climb.{own_with_class}
 use Rattle.st_scope.proofs.TableLaws.{some_class, from_bases, with_class}
 use Rattle.st_scope.proofs.tables.NameTables.inherited.Goals as goal
 

@@ -1,8 +1,0 @@
-use Rattle.plc_num.specs.Bits.{conjunction}
-use Rattle.constant_values.proofs.Wide.{operands_are, conjunction_wide}
-use Rattle.constant_values.proofs.arithmetic.conjunction.Goals as goal
-
-pub returns : goal.returns
-returns c =
-    operands_are c.args.e c.args.a c.args.b c.and.result c.ranges.a c.ranges.b (record { sfits = c.and.type_inv }) c.wrap.result c.wrap-2.result c.wrap.ensures.value c.wrap-2.ensures.value (record { sfits = c.wrap.type_inv }) (record { sfits = c.wrap-2.type_inv })
-    conjunction (conjunction_wide c.args.e c.args.a c.args.b) c.and.ensures.value
