@@ -74,8 +74,8 @@ module _ (s : Scope) where
 
   -- ---- the rules of a written type
 
-  abbrev pub bound_faults : Expression ℕ → Faults
-  bound_faults e = constant_faults s Anything e ++ index_unsuited (line_of e) (type_of s Anything e)
+  abbrev pub bounds_faults : Expression ℕ → Faults
+  bounds_faults e = constant_faults s Anything e ++ index_unsuited (line_of e) (type_of s Anything e)
 
   abbrev pub lies_above : Option ℤ → Option ℤ → Bool
   lies_above (Some low) (Some high) = not (int_le low high)
@@ -85,7 +85,7 @@ module _ (s : Scope) where
   lower_bound_above low high = when (lies_above (bound_value low) (bound_value high)) E13 (line_of low)
 
   abbrev pub dimension_faults : Bounds ℕ → Faults
-  dimension_faults b = bound_faults (expression_of b.low) ++ bound_faults (expression_of b.high) ++ lower_bound_above (expression_of b.low) (expression_of b.high)
+  dimension_faults b = bounds_faults (expression_of b.low) ++ bounds_faults (expression_of b.high) ++ lower_bound_above (expression_of b.low) (expression_of b.high)
 
   abbrev pub type_not_found : ℕ → List ℕ → Faults
   type_not_found line name = when (is_none (type_declared name)) E05 line

@@ -6,7 +6,7 @@ use Rattle.std.specs.List.{list_all, list_any, slice_get}
 use Rattle.std.proofs.lemmas.Bool.{eqb-true, eq-eqb}
 use Rattle.std.proofs.lemmas.Bool.Decides.{nat_tests}
 use Rattle.graph_cycles.specs.declared.graph.Edge.{Edge}
-use Rattle.graph_cycles.specs.declared.places.Place.{Place}
+use Rattle.graph_cycles.specs.declared.places.Node.{Node}
 use Rattle.std.proofs.Common.{replicate}
 use Rattle.std.specs.Prelude.{slice_set}
 use Rattle.std.proofs.lemmas.Option.{slice_get_within}
@@ -64,37 +64,37 @@ any_parts f (y ∷ ys) h = elim (either_of (f y) (list_any f ys) h) [
 
 -- groups and roots
 
-abbrev group_by : Option Place → ℕ
+abbrev group_by : Option Node → ℕ
 group_by None = 0
 group_by (Some p) = p.group
 
-falls_down : (o p : Option Place) → falls_by o p ≡ true → group_by p ≤ group_by o
+falls_down : (o p : Option Node) → falls_by o p ≡ true → group_by p ≤ group_by o
 falls_down None p h = absurd (no_false h)
 falls_down (Some p) None h = absurd (no_false h)
 falls_down (Some p) (Some q) h = grind (arith, nat_tests)
 
-falls_stays : (o p : Option Place) → falls_by o p ≡ true → group_by o ≤ group_by p → stays_by o p ≡ true
+falls_stays : (o p : Option Node) → falls_by o p ≡ true → group_by o ≤ group_by p → stays_by o p ≡ true
 falls_stays None p h g = absurd (no_false h)
 falls_stays (Some p) None h g = absurd (no_false h)
 falls_stays (Some p) (Some q) h g = grind (arith, nat_tests)
 
-record Stays (places : List Place) (i j : ℕ) : Type 0 where
-  from : Place
-  to : Place
+record Stays (places : List Node) (i j : ℕ) : Type 0 where
+  from : Node
+  to : Node
   from_is : slice_get places i ≡ Some from
   to_is : slice_get places j ≡ Some to
   same : to.root ≡ from.root
 
-stays_parts : (places : List Place) (i j : ℕ) (o p : Option Place) → slice_get places i ≡ o → slice_get places j ≡ p → stays_by o p ≡ true → Stays places i j
+stays_parts : (places : List Node) (i j : ℕ) (o p : Option Node) → slice_get places i ≡ o → slice_get places j ≡ p → stays_by o p ≡ true → Stays places i j
 stays_parts places i j None p e f h = absurd (no_false h)
 stays_parts places i j (Some p) None e f h = absurd (no_false h)
 stays_parts places i j (Some p) (Some q) e f h = record { from = p; to = q; from_is = e; to_is = f; same = eqb-true q.root p.root h }
 
 -- the next node on the way to the root, or from it
-record Next (places : List Place) (steps : Place → ℕ) (p : Place) (Edged : ℕ → Type 0) : Type 0 where
+record Next (places : List Node) (steps : Node → ℕ) (p : Node) (Edged : ℕ → Type 0) : Type 0 where
   node : ℕ
   edged : Edged node
-  place : Place
+  place : Node
   is : slice_get places node ≡ Some place
   same : place.root ≡ p.root
   fewer : steps place < steps p
@@ -108,41 +108,41 @@ module _ (edges : List Edge) where
   chained _ _ k (along i j e) q = onward i j k e q
   chained _ _ k (onward i m j e r) q = onward i m k e (chained m j k r q)
 
-module _ (edges : List Edge) (places : List Place) where
+module _ (edges : List Edge) (places : List Node) where
   edge_is : (k i j : ℕ) (e : Edge) → slice_get edges k ≡ Some e → e.from ≡ i → e.to ≡ j → HasEdge edges i j
   edge_is k i j e h f t =
       let from : ℕ → Option Edge = λ n. Some (record { from = n; to = e.to }) in
       let to : ℕ → Option Edge = λ n. Some (record { from = i; to = n }) in
       record { at = k; is = h ∙ ap from f ∙ ap to t }
 
-  ahead_at : (i : ℕ) (p : Place) (k : ℕ) (e : Edge) → slice_get edges k ≡ Some e → (o : Option Place) → slice_get places e.to ≡ o → ahead_place e i p o ≡ true → Next places (λ p. p.ahead_steps) p (λ j. HasEdge edges i j)
+  ahead_at : (i : ℕ) (p : Node) (k : ℕ) (e : Edge) → slice_get edges k ≡ Some e → (o : Option Node) → slice_get places e.to ≡ o → ahead_place e i p o ≡ true → Next places (λ p. p.ahead_steps) p (λ j. HasEdge edges i j)
   ahead_at i p k e g None f h = absurd (no_false h)
   ahead_at i p k e g (Some q) f h =
       let a = both (nat_eq e.from i && nat_eq q.root p.root) (nat_lt q.ahead_steps p.ahead_steps) h in
       let b = both (nat_eq e.from i) (nat_eq q.root p.root) (a.0) in
       record { node = e.to; edged = edge_is k i e.to e g (eqb-true e.from i (b.0)) refl; place = q; is = f; same = eqb-true q.root p.root (b.1); fewer = grind (arith, nat_tests) }
 
-  ahead_parts : (i : ℕ) (p : Place) (o : Option Edge) → slice_get edges p.ahead ≡ o → ahead_edge places i p o ≡ true → Next places (λ p. p.ahead_steps) p (λ j. HasEdge edges i j)
+  ahead_parts : (i : ℕ) (p : Node) (o : Option Edge) → slice_get edges p.ahead ≡ o → ahead_edge places i p o ≡ true → Next places (λ p. p.ahead_steps) p (λ j. HasEdge edges i j)
   ahead_parts i p None g h = absurd (no_false h)
   ahead_parts i p (Some e) g h = ahead_at i p p.ahead e g (slice_get places e.to) refl h
 
-  behind_at : (i : ℕ) (p : Place) (k : ℕ) (e : Edge) → slice_get edges k ≡ Some e → (o : Option Place) → slice_get places e.from ≡ o → behind_place e i p o ≡ true → Next places (λ p. p.behind_steps) p (λ j. HasEdge edges j i)
+  behind_at : (i : ℕ) (p : Node) (k : ℕ) (e : Edge) → slice_get edges k ≡ Some e → (o : Option Node) → slice_get places e.from ≡ o → behind_place e i p o ≡ true → Next places (λ p. p.behind_steps) p (λ j. HasEdge edges j i)
   behind_at i p k e g None f h = absurd (no_false h)
   behind_at i p k e g (Some q) f h =
       let a = both (nat_eq e.to i && nat_eq q.root p.root) (nat_lt q.behind_steps p.behind_steps) h in
       let b = both (nat_eq e.to i) (nat_eq q.root p.root) (a.0) in
       record { node = e.from; edged = edge_is k e.from i e g refl (eqb-true e.to i (b.0)); place = q; is = f; same = eqb-true q.root p.root (b.1); fewer = grind (arith, nat_tests) }
 
-  behind_parts : (i : ℕ) (p : Place) (o : Option Edge) → slice_get edges p.behind ≡ o → behind_edge places i p o ≡ true → Next places (λ p. p.behind_steps) p (λ j. HasEdge edges j i)
+  behind_parts : (i : ℕ) (p : Node) (o : Option Edge) → slice_get edges p.behind ≡ o → behind_edge places i p o ≡ true → Next places (λ p. p.behind_steps) p (λ j. HasEdge edges j i)
   behind_parts i p None g h = absurd (no_false h)
   behind_parts i p (Some e) g h = behind_at i p p.behind e g (slice_get places e.from) refl h
 
-  rooted_at : (m : ℕ) (ps : List Place) (k : ℕ) (p : Place) → all_rooted edges places m ps ≡ true → slice_get ps k ≡ Some p → rooted edges places (m + k) p ≡ true
+  rooted_at : (m : ℕ) (ps : List Node) (k : ℕ) (p : Node) → all_rooted edges places m ps ≡ true → slice_get ps k ≡ Some p → rooted edges places (m + k) p ≡ true
   rooted_at m [] k p h e = absurd (no_none p e)
   rooted_at m (q ∷ qs) zero p h e =
       let s : m + zero ≡ m = omega arith in
       let t : q ≡ p = cc e in
-      subst (λ (n : ℕ). rooted edges places n p ≡ true) (sym s) (subst (λ (r : Place). rooted edges places m r ≡ true) t ((both (rooted edges places m q) (all_rooted edges places (m + 1) qs) h).0))
+      subst (λ (n : ℕ). rooted edges places n p ≡ true) (sym s) (subst (λ (r : Node). rooted edges places m r ≡ true) t ((both (rooted edges places m q) (all_rooted edges places (m + 1) qs) h).0))
   rooted_at m (q ∷ qs) (suc k) p h e =
       let s : m + 1 + k ≡ m + suc k = omega arith in
       subst (λ (n : ℕ). rooted edges places n p ≡ true) s (rooted_at (m + 1) qs k p ((both (rooted edges places m q) (all_rooted edges places (m + 1) qs) h).1) e)
@@ -156,10 +156,10 @@ module _ (edges : List Edge) (places : List Place) where
   ended i j r (inr q) e = snoc edges r j i q e
 
   module _ (right : AreRight edges places) where
-    rooted_node : (i : ℕ) (p : Place) → slice_get places i ≡ Some p → rooted edges places i p ≡ true
+    rooted_node : (i : ℕ) (p : Node) → slice_get places i ≡ Some p → rooted edges places i p ≡ true
     rooted_node i p e = let s : 0 + i ≡ i = omega arith in subst (λ (n : ℕ). rooted edges places n p ≡ true) s (rooted_at 0 places i p right.rooting e)
 
-    to_root : (n i : ℕ) (p : Place) → slice_get places i ≡ Some p → p.ahead_steps < n → (i ≡ p.root) ⊎ Way edges i p.root
+    to_root : (n i : ℕ) (p : Node) → slice_get places i ≡ Some p → p.ahead_steps < n → (i ≡ p.root) ⊎ Way edges i p.root
     to_root zero i p e h = absurd (omega arith)
     to_root (suc n) i p e h = elim (either_of (nat_eq i p.root) (ahead edges places i p && behind edges places i p) (rooted_node i p e)) [
       | inl q ↦ inl (eqb-true i p.root q)
@@ -169,7 +169,7 @@ module _ (edges : List Edge) (places : List Place) where
           inr (subst (λ (r : ℕ). Way edges i r) x.same (begun i x.node x.place.root x.edged (to_root n x.node x.place x.is s)))
     ]
 
-    from_root : (n i : ℕ) (p : Place) → slice_get places i ≡ Some p → p.behind_steps < n → (p.root ≡ i) ⊎ Way edges p.root i
+    from_root : (n i : ℕ) (p : Node) → slice_get places i ≡ Some p → p.behind_steps < n → (p.root ≡ i) ⊎ Way edges p.root i
     from_root zero i p e h = absurd (omega arith)
     from_root (suc n) i p e h = elim (either_of (nat_eq i p.root) (ahead edges places i p && behind edges places i p) (rooted_node i p e)) [
       | inl q ↦ inl (sym (eqb-true i p.root q))
@@ -235,10 +235,10 @@ marked_none zero j = refl
 marked_none (suc n) zero = refl
 marked_none (suc n) (suc j) = marked_none n j
 
-pub within : (places : List Place) (e : Edge) → stays places e ≡ true → e.from < length places
+pub within : (places : List Node) (e : Edge) → stays places e ≡ true → e.from < length places
 within places e h = held (slice_get places e.from) refl h
   where
-    held : (o : Option Place) → slice_get places e.from ≡ o → stays_by o (slice_get places e.to) ≡ true → e.from < length places
+    held : (o : Option Node) → slice_get places e.from ≡ o → stays_by o (slice_get places e.to) ≡ true → e.from < length places
     held None f h = absurd (no_false h)
     held (Some p) f h = slice_get_within places e.from p f
 
@@ -250,5 +250,5 @@ one_more false s b r h = ap (λ x. (x && b) || r) (sym h)
 pub none_more : (m s b r : Bool) → s ≡ false → (m || r) ≡ (m || ((s && b) || r))
 none_more m s b r h = ap (λ x. m || ((x && b) || r)) (sym h)
 
-pub decided_by : (edges : List Edge) (places : List Place) → AreRight edges places → (i : ℕ) (b : Bool) → b ≡ list_any (stays_from places i) edges → Decides b (IsTurning edges i)
+pub decided_by : (edges : List Edge) (places : List Node) → AreRight edges places → (i : ℕ) (b : Bool) → b ≡ list_any (stays_from places i) edges → Decides b (IsTurning edges i)
 decided_by edges places right i b e = subst (λ (x : Bool). Decides x (IsTurning edges i)) (sym e) (decided edges places right i)

@@ -11,14 +11,14 @@ ghost use Rattle.graph_cycles.specs.Private.Places.{stays, stays_from};
 use crate::behind::behind;
 use crate::graph::Edge;
 use crate::hint::{edge_order, places};
-use crate::places::{Place, are_right};
+use crate::places::{Node, are_right};
 use crate::search::searched;
 use plc_text::NoMemory;
 use std::alloc::Global;
 
 /// Whether the edge stays within a group.
 #[tactic(auto, using(crate::proofs::CycleLaws::within))]
-fn stays(places: &[Place], edge: Edge) -> bool
+fn stays(places: &[Node], edge: Edge) -> bool
     ensures same { result ≡ stays places.now edge }
     ensures within { result ≡ true → edge.from < length places.now }
 {
@@ -38,7 +38,7 @@ fn mark(marks: &mut Vec<bool>, i: usize)
 }
 
 /// Marks where the edge begins, if it stays within its group.
-fn mark_edge(marks: &mut Vec<bool>, places: &[Place], edge: Edge)
+fn mark_edge(marks: &mut Vec<bool>, places: &[Node], edge: Edge)
     requires { length marks.old.items ≡ length places.now }
     ensures long { length marks.new.items ≡ length marks.old.items }
     ensures rest { (i : ℕ) (es : List AnEdge) → (marked marks.new.items i || list_any (stays_from places.now i) es) ≡ (marked marks.old.items i || list_any (stays_from places.now i) (edge ∷ es)) }
@@ -49,7 +49,7 @@ fn mark_edge(marks: &mut Vec<bool>, places: &[Place], edge: Edge)
 }
 
 /// Marks each node from which an edge stays within its group.
-fn marks(alloc: Global, edges: &[Edge], places: &[Place]) -> Result<Vec<bool>, NoMemory>
+fn marks(alloc: Global, edges: &[Edge], places: &[Node]) -> Result<Vec<bool>, NoMemory>
     ensures long { IfOk result (λ t. length t.items ≡ length places.now) }
     ensures marks { IfOk result (λ t. (i : ℕ) → marked t.items i ≡ list_any (stays_from places.now i) edges.now) }
 {
@@ -65,7 +65,7 @@ fn on_cycles(
     alloc: Global,
     count: usize,
     edges: &[Edge],
-    hint: &[Place],
+    hint: &[Node],
 ) -> Result<Vec<bool>, NoMemory>
     requires { (k : ℕ) (e : AnEdge) → slice_get edges.now k ≡ Some e → (e.from < count) × (e.to < count) }
     ensures long { IfOk result (λ t. length t.items ≡ count) }

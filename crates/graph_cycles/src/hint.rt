@@ -1,7 +1,7 @@
 //! Places of nodes, by searches with a stack of their own. Nothing is said of them here: they are checked.
 
 use crate::graph::Edge;
-use crate::places::Place;
+use crate::places::Node;
 use plc_text::NoMemory;
 use std::alloc::Global;
 
@@ -83,10 +83,10 @@ fn left_order(alloc: Global, count: usize, edges: &[Edge]) -> Result<Vec<usize>,
     Ok(done)
 }
 
-fn place_of(places: &[Place], i: usize) -> Place {
+fn place_of(places: &[Node], i: usize) -> Node {
     match places.get(i) {
         Some(place) => *place,
-        None => Place {
+        None => Node {
             group: 0,
             root: NONE,
             ahead: NONE,
@@ -103,9 +103,9 @@ fn groups(
     count: usize,
     edges: &[Edge],
     order: &[usize],
-) -> Result<Vec<Place>, NoMemory> {
+) -> Result<Vec<Node>, NoMemory> {
     let mut lists = Lists::new(alloc, count, edges, false)?;
-    let none = Place {
+    let none = Node {
         group: 0,
         root: NONE,
         ahead: NONE,
@@ -113,7 +113,7 @@ fn groups(
         behind: NONE,
         behind_steps: 0,
     };
-    let mut places: Vec<Place> = vec![in alloc; none; count]?;
+    let mut places: Vec<Node> = vec![in alloc; none; count]?;
     let mut stack: Vec<usize> = Vec::new(alloc);
     let mut left = order.len();
     for _ in 0..bound(count, edges) {
@@ -125,7 +125,7 @@ fn groups(
                 left -= 1;
                 let root = order[left];
                 if root < places.len() && places[root].root == NONE {
-                    places[root] = Place {
+                    places[root] = Node {
                         group: left,
                         root,
                         ahead: NONE,
@@ -143,7 +143,7 @@ fn groups(
                         let from = edges[k].from;
                         let near = place_of(&places, top);
                         if from < places.len() && places[from].root == NONE {
-                            places[from] = Place {
+                            places[from] = Node {
                                 group: near.group,
                                 root: near.root,
                                 ahead: k,
@@ -162,7 +162,7 @@ fn groups(
 }
 
 /// The places of the nodes.
-pub fn places(alloc: Global, count: usize, edges: &[Edge]) -> Result<Vec<Place>, NoMemory> {
+pub fn places(alloc: Global, count: usize, edges: &[Edge]) -> Result<Vec<Node>, NoMemory> {
     let order = left_order(alloc, count, edges)?;
     let mut places = groups(alloc, count, edges, &order)?;
     let mut lists = Lists::new(alloc, count, edges, true)?;
@@ -191,7 +191,7 @@ pub fn places(alloc: Global, count: usize, edges: &[Edge]) -> Result<Vec<Place>,
                             && to != near.root
                         {
                             let was = places[to];
-                            places[to] = Place {
+                            places[to] = Node {
                                 group: was.group,
                                 root: was.root,
                                 ahead: was.ahead,

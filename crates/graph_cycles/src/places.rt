@@ -8,7 +8,7 @@ use crate::graph::Edge;
 
 /// Where a node stands: its group, whose nodes lead to each other, and the edges to and from the group's root.
 #[derive(Clone, Copy)]
-pub struct Place {
+pub struct Node {
     pub group: usize,
     pub root: usize,
     pub ahead: usize,
@@ -18,7 +18,7 @@ pub struct Place {
 }
 
 /// Whether an edge leads into the same group or one of a lower number.
-fn falls(places: &[Place], edge: Edge) -> bool
+fn falls(places: &[Node], edge: Edge) -> bool
     ensures { result ≡ falls places.now edge }
 {
     match (places.get(edge.from), places.get(edge.to)) {
@@ -28,7 +28,7 @@ fn falls(places: &[Place], edge: Edge) -> bool
 }
 
 /// Whether the edge ahead leads from the node to one of its group that is nearer to the root.
-fn ahead(edges: &[Edge], places: &[Place], i: usize, p: Place) -> bool
+fn ahead(edges: &[Edge], places: &[Node], i: usize, p: Node) -> bool
     ensures { result ≡ ahead edges.now places.now i p }
 {
     match edges.get(p.ahead) {
@@ -40,7 +40,7 @@ fn ahead(edges: &[Edge], places: &[Place], i: usize, p: Place) -> bool
     }
 }
 
-fn behind(edges: &[Edge], places: &[Place], i: usize, p: Place) -> bool
+fn behind(edges: &[Edge], places: &[Node], i: usize, p: Node) -> bool
     ensures { result ≡ behind edges.now places.now i p }
 {
     match edges.get(p.behind) {
@@ -52,13 +52,13 @@ fn behind(edges: &[Edge], places: &[Place], i: usize, p: Place) -> bool
     }
 }
 
-fn rooted(edges: &[Edge], places: &[Place], i: usize, p: Place) -> bool
+fn rooted(edges: &[Edge], places: &[Node], i: usize, p: Node) -> bool
     ensures { result ≡ rooted edges.now places.now i p }
 {
     i == p.root || ahead(edges, places, i, p) && behind(edges, places, i, p)
 }
 
-fn all_fall(edges: &[Edge], places: &[Place]) -> bool
+fn all_fall(edges: &[Edge], places: &[Node]) -> bool
     ensures { result ≡ list_all (falls places.now) edges.now }
 {
     for edge in edges {
@@ -69,7 +69,7 @@ fn all_fall(edges: &[Edge], places: &[Place]) -> bool
     true
 }
 
-fn all_rooted(edges: &[Edge], places: &[Place]) -> bool
+fn all_rooted(edges: &[Edge], places: &[Node]) -> bool
     ensures { result ≡ all_rooted edges.now places.now 0 places.now }
 {
     for (i, p) in places.iter().enumerate() {
@@ -81,7 +81,7 @@ fn all_rooted(edges: &[Edge], places: &[Place]) -> bool
 }
 
 /// Whether the hint tells the groups: each edge falls or stays within a group, and each group hangs together.
-pub fn are_right(edges: &[Edge], places: &[Place]) -> bool
+pub fn are_right(edges: &[Edge], places: &[Node]) -> bool
     ensures { result ≡ true → AreRight edges.now places.now }
 {
     all_fall(edges, places) && all_rooted(edges, places)

@@ -2,6 +2,6 @@
 //! sort in the end.
 #![tactic(auto)]
 
-mod laws;
+mod passing;
 
-pub use laws::passing_laws;
+pub use passing::passing_laws;

@@ -6,8 +6,8 @@ use Rattle.plc_text.specs.declared.denied.Denied.{Denied}
 use Rattle.plc_text.specs.declared.denied.Denied.TheVariants as denial
 use Rattle.plant_rules.specs.Meaning.{Meaning, Has}
 use Rattle.plant_rules.specs.History.{Past, Script, State, state_of, stage_at, idle, done, Turn, free, wanted_by, under_way, at_play, task_of, with_event, answered, wanted, reset, Waits, IsNext, IsOpen, Writing, Claimed, HasTask, Unable, Resets}
-use Rattle.plant_core.specs.declared.answers.Place.{Place}
-use Rattle.plant_core.specs.declared.answers.Place.TheVariants as place
+use Rattle.plant_core.specs.declared.answers.Timing.{Timing}
+use Rattle.plant_core.specs.declared.answers.Timing.TheVariants as timing
 use Rattle.plant_core.specs.declared.answers.Able.{Able}
 use Rattle.plant_core.specs.declared.answers.Able.TheVariants as able
 use Rattle.plant_core.specs.declared.answers.Begun.{Begun}
@@ -48,16 +48,16 @@ module _ {W : Type 0} (m : Meaning W) (script : Script) where
     pub waits : Waits m script s q p
     pub least : (k : ℕ) → k < q → Waits m script s k p → ⊥
 
-  abbrev pub IsPlace : State W → ℕ → Place → Type 0
-  IsPlace s p place.Twice = stage_at s.stages p ≡ idle → ⊥
-  IsPlace s p (place.Early q) = IsEarly s p q
-  IsPlace s p place.Next = IsNext m script s p
+  abbrev pub IsTiming : State W → ℕ → Timing → Type 0
+  IsTiming s p timing.Twice = stage_at s.stages p ≡ idle → ⊥
+  IsTiming s p (timing.Early q) = IsEarly s p q
+  IsTiming s p timing.Next = IsNext m script s p
 
   -- where a change or a reset stands: it has an entry, a play before it has none, or it comes next
-  abbrev pub IsPlaceOnce : State W → ℕ → Place → Type 0
-  IsPlaceOnce s p place.Twice = stage_at s.stages p ≡ done
-  IsPlaceOnce s p (place.Early q) = IsEarly s p q
-  IsPlaceOnce s p place.Next = IsNext m script s p
+  abbrev pub IsTimingOnce : State W → ℕ → Timing → Type 0
+  IsTimingOnce s p timing.Twice = stage_at s.stages p ≡ done
+  IsTimingOnce s p (timing.Early q) = IsEarly s p q
+  IsTimingOnce s p timing.Next = IsNext m script s p
 
   abbrev pub IsAble : State W → ℕ → Able → Type 0
   IsAble s p (able.Gone k) = (m.named s.version (task_of (at_play m script p)) ≡ None) × (k ≡ s.since (task_of (at_play m script p)))

@@ -4,7 +4,7 @@ use plc_text::Denied;
 
 /// Where a play stands: it has an entry or an open claim, a play before it has no entry, or it comes next.
 #[derive(Drop)]
-pub enum Place {
+pub enum Timing {
     Twice,
     Early(u32),
     Next,

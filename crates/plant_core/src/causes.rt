@@ -2,10 +2,10 @@
 
 ghost use Rattle.std.specs.Prelude.{◌≡◌, ◌<◌, ◌≤◌, ℕ, false, length, MatchBool, MatchOption};
 ghost use Rattle.plant_rules.specs.History.{state_of, stage_at, is_change, is_cycle, at_play, done, idle, IsOpen, Unclaimed};
-ghost use Rattle.plant_core.specs.Answers.{turn_play, IsPlace, IsPlaceOnce, IsAble, IsTask, IsBusy};
+ghost use Rattle.plant_core.specs.Answers.{turn_play, IsTiming, IsTimingOnce, IsAble, IsTask, IsBusy};
 ghost use Rattle.plant_core.specs.Private.Causes.{MeetsWith, nearer_of};
 
-use crate::answers::{Able, Place};
+use crate::answers::{Able, Timing};
 use crate::hub::Core;
 use crate::meeting::first_meeting;
 use crate::stage::{Ongoing, Status};
@@ -36,33 +36,33 @@ impl<P: Controlled> Core<P> {
     }
 
     // Where a cycle stands.
-    pub(crate) fn place(&self, play: u32) -> Place
+    pub(crate) fn place(&self, play: u32) -> Timing
         requires from { 1 ≤ play }
         requires to { play ≤ length self.now.script.plays }
-        ensures { IsPlace P.meaning self.now.script (state_of P.meaning self.now) play result }
+        ensures { IsTiming P.meaning self.now.script (state_of P.meaning self.now) play result }
     {
         if !self.is_idle(play) {
-            return Place::Twice;
+            return Timing::Twice;
         }
         match self.stock.progress.early(play) {
-            Some(q) => Place::Early(q),
-            None => Place::Next,
+            Some(q) => Timing::Early(q),
+            None => Timing::Next,
         }
     }
 
     // Where a change or a reset stands.
-    pub(crate) fn place_once(&self, play: u32) -> Place
+    pub(crate) fn place_once(&self, play: u32) -> Timing
         requires from { 1 ≤ play }
         requires to { play ≤ length self.now.script.plays }
         requires once { is_cycle (at_play P.meaning self.now.script play) ≡ false }
-        ensures { IsPlaceOnce P.meaning self.now.script (state_of P.meaning self.now) play result }
+        ensures { IsTimingOnce P.meaning self.now.script (state_of P.meaning self.now) play result }
     {
         if self.is_done(play) {
-            return Place::Twice;
+            return Timing::Twice;
         }
         match self.stock.progress.early(play) {
-            Some(q) => Place::Early(q),
-            None => Place::Next,
+            Some(q) => Timing::Early(q),
+            None => Timing::Next,
         }
     }
 

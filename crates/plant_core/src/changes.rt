@@ -7,7 +7,7 @@ ghost use Rattle.plant_rules.specs.Next.{IsKit, IsSupplied};
 ghost use Rattle.plant_rules.specs.History.{state_of, with_event, wanted, quieted, changed, resumed, denied, is_change, at_play, wanted_by, under_way, IsOpen, ComesTo, Denies, Follows};
 ghost use Rattle.plant_core.specs.Answers.{WantedAs, LaterAs, play_of, denial_of};
 
-use crate::answers::{Later, OlderWish, Place, Wanted, Wish};
+use crate::answers::{Later, OlderWish, Timing, Wanted, Wish};
 use crate::event::{Event, What};
 use crate::hub::{Core, take_some};
 use crate::stage::{Ongoing, Status};
@@ -48,9 +48,9 @@ impl<P: Controlled> Core<P> {
         ensures { WantedAs P.meaning self.old self.new who play result }
     {
         match self.place_once(play) {
-            Place::Twice => Wanted::Twice,
-            Place::Early(q) => Wanted::Early { play: q },
-            Place::Next => match self.paused() {
+            Timing::Twice => Wanted::Twice,
+            Timing::Early(q) => Wanted::Early { play: q },
+            Timing::Next => match self.paused() {
                 Some(change) => Wanted::Paused { change },
                 None => {
                     self.note_wanted(who, play);

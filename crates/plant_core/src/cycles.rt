@@ -8,7 +8,7 @@ ghost use Rattle.plant_rules.specs.History.{now_of, input_of, state_of, with_eve
 ghost use Rattle.plant_core.specs.Claim.{HasClaimed, HasRun};
 ghost use Rattle.plant_core.specs.Answers.{BegunAs};
 
-use crate::answers::{Able, Begun, Place};
+use crate::answers::{Able, Begun, Timing};
 use crate::claim::{Claim, Ran};
 use crate::event::{Event, What};
 use crate::hub::Core;
@@ -76,9 +76,9 @@ impl<P: Controlled> Core<P> {
         ensures { BegunAs result P.meaning self.old self.new who play (λ c. (self.new ≡ with_event self.old who play (begun c.task (arc_value c.kit.shared) c.kit.carrier)) × HasClaimed P.meaning self.old.script (state_of P.meaning self.old) play c.task c.play c.now c.input.items (arc_value c.kit.shared) c.kit.carrier × P.ready (arc_value c.kit.shared) c.task c.kit.work) }
     {
         match self.place(play) {
-            Place::Twice => Begun::Twice,
-            Place::Early(q) => Begun::Early { play: q },
-            Place::Next => match self.paused() {
+            Timing::Twice => Begun::Twice,
+            Timing::Early(q) => Begun::Early { play: q },
+            Timing::Next => match self.paused() {
                 Some(change) => Begun::Paused { change },
                 None => match self.able(play) {
                     Able::Gone(since) => {

@@ -4,7 +4,7 @@ ghost use Rattle.std.specs.Prelude.{◌≡◌, ◌≤◌, true, length};
 ghost use Rattle.plant_rules.specs.History.{state_of, with_event, reset, is_reset, at_play, Resets, Follows};
 ghost use Rattle.plant_core.specs.Answers.{ResetAs};
 
-use crate::answers::{Able, Place, ResetDone};
+use crate::answers::{Able, ResetDone, Timing};
 use crate::event::{Event, What};
 use crate::hub::Core;
 use crate::stage::Status;
@@ -56,9 +56,9 @@ impl<P: Controlled> Core<P> {
         ensures { ResetAs P.meaning self.old self.new who play result }
     {
         match self.place_once(play) {
-            Place::Twice => ResetDone::Twice,
-            Place::Early(q) => ResetDone::Early { play: q },
-            Place::Next => {
+            Timing::Twice => ResetDone::Twice,
+            Timing::Early(q) => ResetDone::Early { play: q },
+            Timing::Next => {
                 let answer = self.reset_answer(play);
                 self.note_reset(who, play, answer);
                 ResetDone::Made

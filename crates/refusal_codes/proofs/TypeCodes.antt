@@ -12,7 +12,7 @@ use Rattle.st_rules.specs.declared.asked.Asked.TheVariants.{Anything}
 use Rattle.st_rules.specs.Scope.{Scope}
 use Rattle.st_rules.specs.Expressions.{line_of, type_of}
 use Rattle.declared_names.specs.Constants.{constant_value, no_constant_part, no_constant_operand, no_constant_argument, zero_divisor, value_faults, constant_faults, divides_by_zero, Outcome}
-use Rattle.declared_names.specs.WrittenTypes.{dimensions, bound_faults, dimension_faults, element_faults, type_faults}
+use Rattle.declared_names.specs.WrittenTypes.{dimensions, bounds_faults, dimension_faults, element_faults, type_faults}
 use Rattle.refusal_codes.proofs.FaultWords.{Usual, none, ◌also◌, broken, if_broken, either, of_each}
 use Rattle.refusal_codes.proofs.CallCodes.{value_unsuited_usual}
 use Rattle.refusal_codes.proofs.ExpressionCodes.{faults_usual, index_unsuited_usual}
@@ -60,11 +60,11 @@ module _ (s : Scope) where
 -- ---- written types
 
 module _ (s : Scope) where
-  bound_faults_usual : (e : Expression ℕ) → Usual (bound_faults s e)
-  bound_faults_usual e = constant_faults_usual s Anything e also index_unsuited_usual (line_of e) (type_of s Anything e)
+  bounds_faults_usual : (e : Expression ℕ) → Usual (bounds_faults s e)
+  bounds_faults_usual e = constant_faults_usual s Anything e also index_unsuited_usual (line_of e) (type_of s Anything e)
 
   dimension_faults_usual : (b : Bounds ℕ) → Usual (dimension_faults s b)
-  dimension_faults_usual b = bound_faults_usual (expression_of b.low) also bound_faults_usual (expression_of b.high) also if_broken _ E13 _ refl
+  dimension_faults_usual b = bounds_faults_usual (expression_of b.low) also bounds_faults_usual (expression_of b.high) also if_broken _ E13 _ refl
 
   element_faults_usual : (x : SimpleSpec ℕ) → Usual (element_faults s x)
   element_faults_usual (spec.Elementary l e) = none

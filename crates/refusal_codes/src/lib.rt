@@ -1,6 +1,6 @@
 //! No rule of a unit has the code E17, which hooks have at loading.
 #![tactic(auto)]
 
-mod laws;
+mod codes;
 
-pub use laws::refusal_codes;
+pub use codes::refusal_codes;

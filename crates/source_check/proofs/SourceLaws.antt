@@ -13,7 +13,7 @@ use Rattle.st_tree.specs.Headings.{declaration_before}
 use Rattle.st_tree.specs.Reads.{lexemes}
 use Rattle.st_tree.specs.Token.{Token, Tokens}
 use Rattle.st_lexer.specs.Source as lexer
-use Rattle.st_parser_decl.specs.Law.{FlatUnit}
+use Rattle.st_parser_decl.specs.Law.{UnitNoneDeep}
 use Rattle.st_parser_decl.specs.Reading as reading
 use Rattle.st_prelude.specs.Prelude.{HasPrelude}
 use Rattle.st_accepted.specs.Accepted.{Accepted, IsUnit, RefusedFor, most_bytes, too_long, bad_place, no_unit, bad_unit}
@@ -54,8 +54,8 @@ module _ (prelude text : List ℕ) where
     not_parsed NoMemory h = tt
     not_parsed (Refused r) h = no_unit fits ts tokens h
 
-    pub is_unit : (unit whole : ProgramText) → FlatUnit (lexemes ts) unit → HasPrelude prelude unit whole → IsUnit prelude text whole
-    is_unit unit whole flat h = record { fits = fits; tokens = ts; tokens-are = tokens; unit = unit; flat = flat; with_prelude = h }
+    pub is_unit : (unit whole : ProgramText) → UnitNoneDeep (lexemes ts) unit → HasPrelude prelude unit whole → IsUnit prelude text whole
+    is_unit unit whole reads h = record { fits = fits; tokens = ts; tokens-are = tokens; unit = unit; reads = reads; with_prelude = h }
 
   module _ (whole : ProgramText) (is : IsUnit prelude text whole) where
     pub not_good : (e : Denied) → OnRefused e (λ r. UnitRefusal whole.decls r.code r.declaration r.line) → OnRefused e Its

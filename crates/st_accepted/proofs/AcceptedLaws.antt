@@ -35,8 +35,8 @@ module _ (prelude text : List ℕ) where
   -- the lexemes are a unit for both readings
   same_unit : (a b : ProgramText) (x : IsUnit prelude text a) (y : IsUnit prelude text b) → x.unit ≡ y.unit
   same_unit a b x y =
-      u.one_unit (lexemes x.tokens) x.unit y.unit x.flat.derived
-      (subst (λ ts. Derives (lexemes ts) y.unit) (sym (same_tokens x.tokens y.tokens x.tokens-are y.tokens-are)) y.flat.derived)
+      u.one_unit (lexemes x.tokens) x.unit y.unit x.reads.derived
+      (subst (λ ts. Derives (lexemes ts) y.unit) (sym (same_tokens x.tokens y.tokens x.tokens-are y.tokens-are)) y.reads.derived)
 
   same_prelude : (a b : ProgramText) → IsPrelude prelude a → IsPrelude prelude b → a ≡ b
   same_prelude a b x y =
@@ -52,7 +52,7 @@ module _ (prelude text : List ℕ) where
 
   refused_unit : (a : ProgramText) (code : Code) (declaration : List ℕ) (line : ℕ) (x : IsUnit prelude text a) (ts : List Token) → Tokens text ts → IsRefused text (lexemes ts) code declaration line → ⊥
   refused_unit a code declaration line x ts h k =
-      s.never_both (lexemes x.tokens) x.unit code k.place x.flat
+      s.never_both (lexemes x.tokens) x.unit code k.place x.reads
       (subst (λ us. IsRefusedAt code (lexemes us) k.place) (same_tokens ts x.tokens h x.tokens-are) k.refused)
 
   one_program : (p q : Program) → Accepted prelude text p → Accepted prelude text q → p ≡ q

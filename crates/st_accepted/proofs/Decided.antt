@@ -1,4 +1,4 @@
--- Every text is accepted or refused: it has tokens or a first bad place, its lexemes are a flat unit or are refused, and a unit is good or bad.
+-- Every text is accepted or refused: it has tokens or a first bad place, its lexemes are a reads unit or are refused, and a unit is good or bad.
 use Rattle.std.proofs.Common.{◌≡◌, ◌⊎◌, inl, inr, ◌<◌, ◌≤◌, ◌+◌, ℕ, zero, suc, true, false, Bool, codes, List, [], ◌∷◌, ◌++◌, length, drop, refl, subst, arith}
 use Rattle.std.specs.List.{slice_range}
 use Rattle.std.proofs.lemmas.Bool.{cases_lt, cases_Bool}
@@ -12,7 +12,7 @@ use Rattle.st_tree.specs.NoUnit.{line_at}
 use Rattle.st_tree.specs.Pieces.{is_piece}
 use Rattle.st_tree.specs.Reads.{lexemes}
 use Rattle.st_tree.specs.Token.{Token, IsPiece, IsChain, IsBad, Tokens, tokens_between}
-use Rattle.st_parser_decl.specs.Law.{FlatUnit, IsAnswered}
+use Rattle.st_parser_decl.specs.Law.{UnitNoneDeep, IsAnswered}
 use Rattle.st_parser_decl.proofs.Stopping.{answered}
 use Rattle.st_prelude.specs.Prelude.{IsPrelude}
 use Rattle.st_unit_rules.proofs.RefusalLaws.{refusal_laws}
@@ -77,13 +77,13 @@ module _ (prelude text : List ℕ) (blocks : ProgramText) (read : IsPrelude prel
     abbrev whole : ProgramText → ProgramText
     whole unit = record { decls = blocks.decls ++ unit.decls }
 
-    is_unit : (unit : ProgramText) → FlatUnit (lexemes ts) unit → IsUnit prelude text (whole unit)
-    is_unit unit flat = record { fits = short; tokens = ts; tokens-are = tokens; unit = unit; flat = flat; with_prelude = record { prelude = blocks; is-prelude = read; before = refl } }
+    is_unit : (unit : ProgramText) → UnitNoneDeep (lexemes ts) unit → IsUnit prelude text (whole unit)
+    is_unit unit reads = record { fits = short; tokens = ts; tokens-are = tokens; unit = unit; reads = reads; with_prelude = record { prelude = blocks; is-prelude = read; before = refl } }
 
-    judged : (unit : ProgramText) → FlatUnit (lexemes ts) unit → Decided
-    judged unit flat = elim (refusal_laws.decided (whole unit).decls) [
-      | inl good ↦ let has = has-program (whole unit).decls in inl (has.program, record { whole = whole unit; is_unit = is_unit unit flat; good = good; checked = has.checked })
-      | inr bad ↦ inr (bad.0, bad.1, bad.2, bad_unit (whole unit) (is_unit unit flat) bad.3)
+    judged : (unit : ProgramText) → UnitNoneDeep (lexemes ts) unit → Decided
+    judged unit reads = elim (refusal_laws.decided (whole unit).decls) [
+      | inl good ↦ let has = has-program (whole unit).decls in inl (has.program, record { whole = whole unit; is_unit = is_unit unit reads; good = good; checked = has.checked })
+      | inr bad ↦ inr (bad.0, bad.1, bad.2, bad_unit (whole unit) (is_unit unit reads) bad.3)
     ]
 
     parsed : IsAnswered (lexemes ts) → Decided

@@ -9,7 +9,7 @@ use Rattle.st_tree.specs.Headings.{declaration_before}
 use Rattle.st_tree.specs.NoUnit.{IsRefused}
 use Rattle.st_tree.specs.Reads.{lexemes}
 use Rattle.st_tree.specs.Token.{Token, Tokens, BadAfter}
-use Rattle.st_parser_decl.specs.Law.{FlatUnit}
+use Rattle.st_parser_decl.specs.Law.{UnitNoneDeep}
 use Rattle.st_prelude.specs.Prelude.{HasPrelude}
 use Rattle.st_unit_rules.specs.Checked.{IsChecked}
 use Rattle.st_unit_rules.specs.RefusalLaws.{IsGood}
@@ -25,7 +25,7 @@ pub record IsUnit (prelude text : List ℕ) (whole : ProgramText) : Type 0 where
   pub tokens : List Token
   pub tokens-are : Tokens text tokens
   pub unit : ProgramText
-  pub flat : FlatUnit (lexemes tokens) unit
+  pub reads : UnitNoneDeep (lexemes tokens) unit
   pub with_prelude : HasPrelude prelude unit whole
 
 -- the text is accepted as the program

@@ -112,7 +112,7 @@ pub fn value_fault(
 }
 
 /// A place that is not of the type of the in-out to which it is bound.
-pub fn bound_fault(
+pub fn binding_fault(
     s: &Scope<'_>,
     line: u32,
     parameter: &Option<StType>,

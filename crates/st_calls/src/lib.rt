@@ -11,7 +11,7 @@ mod names;
 mod parameters;
 
 pub use callee::{Callee, called_root_fault, callee_at, is_on_super};
-pub use conversions::{bound_fault, is_assignable, is_bindable, output_fault, value_fault};
+pub use conversions::{binding_fault, is_assignable, is_bindable, output_fault, value_fault};
 pub use faults::{call_type, callee_fault, result_fault};
 pub use heads::{Head, heads_of};
 pub use matching::{Matched, matches};

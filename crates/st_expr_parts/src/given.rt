@@ -21,7 +21,7 @@ use st_calls::st_places::{
     is_fixed, note, note_of, placed, root_line, standing_type, target_fault, whole_fault,
 };
 use st_calls::st_scope::Scope;
-use st_calls::{bound_fault, is_assignable, output_fault};
+use st_calls::{binding_fault, is_assignable, output_fault};
 use st_rules::{Asked, copied, earlier, when};
 use st_tree::{Argument, Expr, Note, Root, SectionSort, Selector, Target};
 use st_types::StType;
@@ -107,7 +107,7 @@ fn is_bindable_place(s: &Scope<'_>, e: &Expr<u32>) -> bool
 
 /// What is bound to an in-out of this type and will not do.
 #[tactic(auto, using(st_rules::proofs::FaultLaws::faults))]
-fn binding_fault(
+fn in_out_fault(
     s: &Scope<'_>,
     e: &Expr<u32>,
     parameter: &Option<StType>,
@@ -118,7 +118,7 @@ fn binding_fault(
 {
     let line = line_of(e);
     earlier(
-        bound_fault(s, line, parameter, t),
+        binding_fault(s, line, parameter, t),
         when(!is_bindable_place(s, e), Code::E08, line),
     )
 }
@@ -155,7 +155,7 @@ fn given_fault(
     match m {
         Some(m) => {
             if is_in_out_sort(m.sort) {
-                binding_fault(s, e, &m.kind, t)
+                in_out_fault(s, e, &m.kind, t)
             } else {
                 input_fault(s, line_of(e), &m.kind, t)
             }

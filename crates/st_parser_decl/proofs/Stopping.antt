@@ -1,4 +1,4 @@
--- Lexemes are a flat unit, or are refused with one code at one place.
+-- Lexemes are a none_deep unit, or are refused with one code at one place.
 use Rattle.std.proofs.Common.{◌≡◌, ℕ, zero, suc, ◌+◌, ◌-◌, ◌<◌, ◌≤◌, ◌⊎◌, inl, inr, Bool, true, false, List, [], ◌∷◌, ◌++◌, length, take, drop, refl, sym, ◌∙◌, ap, subst, arith, append-nil, append_assoc, length-take, nat_lt, if◌then◌else◌, ltb-true, ltb-false}
 use Rattle.std.proofs.lemmas.Bool.{cases_lt, cases_order}
 use Rattle.std.proofs.lemmas.List.{take-append-drop}
@@ -19,7 +19,7 @@ use Rattle.st_parser_expr.specs.Parse.{DeepAt}
 use Rattle.st_lexer.specs.declared.lexeme.Lexeme as code_of
 use Rattle.st_lexer.specs.Lexeme.{lexeme_of, lexemes_of}
 use Rattle.st_parser_decl.specs.declared.reading.Cause.TheVariants as cause
-use Rattle.st_parser_decl.specs.Law.{FlatUnit, IsAnswered}
+use Rattle.st_parser_decl.specs.Law.{UnitNoneDeep, IsAnswered}
 use Rattle.st_parser_decl.specs.Private.Form.{machine}
 use Rattle.st_parser_decl.specs.Reading.{HasCause}
 use Rattle.st_parser_decl.specs.Private.Causes.{HasStop, deep_cause_of}
@@ -61,9 +61,9 @@ one_deep ts p q d d' = elim (cases_order p q) [
   ]
 ]
 
-flat-more : (ts : List Lexeme) (i : ℕ) → NoneDeep ts i → (nesting ts i ≡ 65 → ⊥) → NoneDeep ts (suc i)
-flat-more ts i flat here j less deep = elim (cases_lt j i) [
-  | inl before ↦ flat j before deep
+none_deep-more : (ts : List Lexeme) (i : ℕ) → NoneDeep ts i → (nesting ts i ≡ 65 → ⊥) → NoneDeep ts (suc i)
+none_deep-more ts i none_deep here j less deep = elim (cases_lt j i) [
+  | inl before ↦ none_deep j before deep
   | inr from ↦ here (let same : j ≡ i = omega arith in subst (λ k. nesting ts k ≡ 65) same deep)
 ]
 
@@ -74,20 +74,20 @@ scan : (ts : List Lexeme) (i : ℕ) → i ≤ length ts → Scan ts i
 scan ts zero le = inr (λ j less deep. absurd (omega arith))
 scan ts (suc i) le = elim (scan ts i (omega arith)) [
   | inl found ↦ inl (found.0, omega (arith, found.1), found.2)
-  | inr flat ↦ elim (cases_order (nesting ts i) 65) [
-    | inl deep ↦ inl (i, omega arith, record { within = omega arith; deep = deep; before = flat })
-    | inr other ↦ inr (flat-more ts i flat (λ deep. elim other [ inl less ↦ absurd (omega arith) | inr more ↦ absurd (omega arith) ]))
+  | inr none_deep ↦ elim (cases_order (nesting ts i) 65) [
+    | inl deep ↦ inl (i, omega arith, record { within = omega arith; deep = deep; before = none_deep })
+    | inr other ↦ inr (none_deep-more ts i none_deep (λ deep. elim other [ inl less ↦ absurd (omega arith) | inr more ↦ absurd (omega arith) ]))
   ]
 ]
 
-flat-front : (ts : List Lexeme) (m n : ℕ) → m ≤ n → NoneDeep ts n → NoneDeep ts m
-flat-front ts m n le flat j less deep = flat j (omega arith) deep
+none_deep-front : (ts : List Lexeme) (m n : ℕ) → m ≤ n → NoneDeep ts n → NoneDeep ts m
+none_deep-front ts m n le none_deep j less deep = none_deep j (omega arith) deep
 
 -- ---- one answer
 
 not_deep : (ts : List Lexeme) (p q : ℕ) → NoUnitAt ts p → TooDeepAt ts q → ⊥
 not_deep ts p q n d = elim (cases_lt q p) [
-  | inl less ↦ n.flat q less d.first.deep
+  | inl less ↦ n.none_deep q less d.first.deep
   | inr from ↦ n.stops.first (omega (arith, d.first.within)) (begins-front IsUnit (suc p) (suc q) ts (omega arith) d.begins)
 ]
 
@@ -100,9 +100,9 @@ one_refusal ts code.E02 _ p q h h' = absurd h'
 one_refusal ts code.E03 _ p q h h' = absurd h'
 one_refusal ts _ c' p q h h' = absurd h
 
-pub never_both : (ts : List Lexeme) (unit : ProgramText) (c : Code) (p : ℕ) → FlatUnit ts unit → IsRefusedAt c ts p → ⊥
+pub never_both : (ts : List Lexeme) (unit : ProgramText) (c : Code) (p : ℕ) → UnitNoneDeep ts unit → IsRefusedAt c ts p → ⊥
 never_both ts unit code.E02 p u h = h.no_unit (unit, u.derived)
-never_both ts unit code.E03 p u h = u.flat p h.first.within h.first.deep
+never_both ts unit code.E03 p u h = u.none_deep p h.first.within h.first.deep
 never_both ts unit _ p u h = h
 
 -- where the machine stops, and whether it wants more there
@@ -115,14 +115,14 @@ pub answered : (ts : List Lexeme) → IsAnswered ts
 answered ts = at (machine top ts).0 (machine top ts).1 refl (scan ts (length ts) (omega arith))
   where
     refused : (p : ℕ) → StopsAt IsUnit ts p → (IsUnit ts → ⊥) → Scan ts (length ts) → IsAnswered ts
-    refused p s none (inr flat) = inr (inl (p, record { stops = s; no_unit = none; flat = flat-front ts p (length ts) s.within flat }))
+    refused p s none (inr none_deep) = inr (inl (p, record { stops = s; no_unit = none; none_deep = none_deep-front ts p (length ts) s.within none_deep }))
     refused p s none (inl found) = elim (cases_lt found.0 p) [
       | inl less ↦ inr (inr (found.0, record { first = found.2; begins = begins-front IsUnit (suc found.0) p ts (omega arith) s.begins }))
-      | inr from ↦ inr (inl (p, record { stops = s; no_unit = none; flat = flat-front ts p found.0 from found.2.before }))
+      | inr from ↦ inr (inl (p, record { stops = s; no_unit = none; none_deep = none_deep-front ts p found.0 from found.2.before }))
     ]
 
     read : IsUnit ts → Scan ts (length ts) → IsAnswered ts
-    read u (inr flat) = inl (u.0, record { derived = u.1; flat = flat })
+    read u (inr none_deep) = inl (u.0, record { derived = u.1; none_deep = none_deep })
     read u (inl found) = inr (inr (found.0, record { first = found.2; begins = begins-whole IsUnit (suc found.0) ts u }))
 
     at : (v : Bool) (left : ℕ) → machine top ts ≡ (v, left) → Scan ts (length ts) → IsAnswered ts
@@ -167,7 +167,7 @@ deep_stopped ts q (Left n) d h = at (nat_lt 0 n) refl
         let place : length (take (suc q) ts) - n ≡ q - (n - 1) = (let m = many in omega arith) in
         let inner : StopsAt IsUnit (take (suc q) ts) (q - (n - 1)) = subst (λ p. StopsAt IsUnit (take (suc q) ts) p) place h.stops in
         let s : StopsAt IsUnit ts (q - (n - 1)) = stops-within (suc q) (q - (n - 1)) ts fits (omega arith) inner in
-        record { stops = s; no_unit = stops-no IsUnit (q - (n - 1)) ts (let f = fits in omega arith) s; flat = flat-front ts (q - (n - 1)) q (omega arith) d.before }
+        record { stops = s; no_unit = stops-no IsUnit (q - (n - 1)) ts (let f = fits in omega arith) s; none_deep = none_deep-front ts (q - (n - 1)) q (omega arith) d.before }
     at false e =
         let none : n ≤ 0 = ltb-false 0 n e in
         let place : length (take (suc q) ts) - n ≡ suc q = (let m = many in omega arith) in

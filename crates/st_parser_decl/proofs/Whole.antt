@@ -12,7 +12,7 @@ use Rattle.st_parser_decl.specs.Private.Form.{machine}
 use Rattle.st_parser_decl.specs.Private.Rules as w
 use Rattle.st_parser_decl.specs.Private.Promises.{Parses, Fails}
 use Rattle.st_parser_decl.specs.Reading.{HasCause}
-use Rattle.st_parser_decl.specs.Private.Causes.{NoUnitLeft, HasStop, flat_cause_of}
+use Rattle.st_parser_decl.specs.Private.Causes.{NoUnitLeft, HasStop, none_deep_cause_of}
 use Rattle.st_parser_decl.proofs.Units.{top, accepted, stopped, left-within}
 
 ended : (rest : List Lexeme) → machine [] rest ≡ (true, length rest)
@@ -57,7 +57,7 @@ within ts all NoMemory e h = tt
 within ts all (Left n) e h = let w = h.within in omega arith
 
 -- where none is too deep
-pub flat_stopped : (ts : List Lexeme) (all : ℕ) (stop : Stop) → all ≡ length ts → NoneDeep ts all → HasStop ts stop → HasCause ts (flat_cause_of all stop)
-flat_stopped ts all NoMemory e flat h = tt
-flat_stopped ts all (Left n) e flat h =
-    record { stops = subst (λ m. StopsAt IsUnit ts (m - n)) (sym e) h.stops; no_unit = h.no_unit; flat = λ j less deep. flat j (omega arith) deep }
+pub none_deep_stopped : (ts : List Lexeme) (all : ℕ) (stop : Stop) → all ≡ length ts → NoneDeep ts all → HasStop ts stop → HasCause ts (none_deep_cause_of all stop)
+none_deep_stopped ts all NoMemory e none_deep h = tt
+none_deep_stopped ts all (Left n) e none_deep h =
+    record { stops = subst (λ m. StopsAt IsUnit ts (m - n)) (sym e) h.stops; no_unit = h.no_unit; none_deep = λ j less deep. none_deep j (omega arith) deep }

@@ -9,14 +9,14 @@ use Rattle.st_tree.specs.Nesting.{NoneDeep}
 use Rattle.st_tree.specs.NoUnit.{IsRefusedAt}
 
 -- the lexemes are the unit, and none of them has nesting 65
-pub record FlatUnit (ts : List Lexeme) (unit : ProgramText) : Type 0 where
+pub record UnitNoneDeep (ts : List Lexeme) (unit : ProgramText) : Type 0 where
   pub derived : Derives ts unit
-  pub flat : NoneDeep ts (length ts)
+  pub none_deep : NoneDeep ts (length ts)
 
 -- refused with this code at some place
 abbrev pub IsRefusedWith : Code → List Lexeme → Type 0
 IsRefusedWith c ts = (p : ℕ) × IsRefusedAt c ts p
 
--- a unit that is flat, or refused with one of the two codes
+-- a unit that is none_deep, or refused with one of the two codes
 abbrev pub IsAnswered : List Lexeme → Type 0
-IsAnswered ts = ((unit : ProgramText) × FlatUnit ts unit) ⊎ (IsRefusedWith code.E02 ts ⊎ IsRefusedWith code.E03 ts)
+IsAnswered ts = ((unit : ProgramText) × UnitNoneDeep ts unit) ⊎ (IsRefusedWith code.E02 ts ⊎ IsRefusedWith code.E03 ts)

@@ -7,7 +7,7 @@ ghost use Rattle.st_tree.specs.Grammar.{Lexeme};
 ghost use Rattle.st_tree.specs.Declarations.{Derives};
 ghost use Rattle.st_tree.specs.Reads.{Reads};
 ghost use Rattle.st_tree.specs.NoUnit.{IsRefusedAt};
-ghost use Rattle.st_parser_decl.specs.Law.{FlatUnit, IsAnswered};
+ghost use Rattle.st_parser_decl.specs.Law.{UnitNoneDeep, IsAnswered};
 
 /// Lexemes spell at most one unit, and a text reads as at most one.
 pub fn one_unit()
@@ -19,5 +19,5 @@ pub fn one_unit()
 pub fn one_answer()
     ensures some { (ts : List Lexeme) → IsAnswered ts }
     ensures one_refusal { (ts : List Lexeme) (code code' : Code) (p q : ℕ) → IsRefusedAt code ts p → IsRefusedAt code' ts q → (code ≡ code') × (p ≡ q) }
-    ensures never_both { (ts : List Lexeme) (unit : ProgramText) (code : Code) (p : ℕ) → FlatUnit ts unit → IsRefusedAt code ts p → ⊥ }
+    ensures never_both { (ts : List Lexeme) (unit : ProgramText) (code : Code) (p : ℕ) → UnitNoneDeep ts unit → IsRefusedAt code ts p → ⊥ }
 {}

@@ -47,9 +47,9 @@ fn whole(alloc: Global, lexemes: &[Lexeme<'_>]) -> Result<Unit, Stop>
 }
 
 /// Where none of all lexemes is too deep.
-fn flat_cause(stop: Stop, all: usize) -> Cause
+fn none_deep_cause(stop: Stop, all: usize) -> Cause
     requires { IsWithin all stop }
-    ensures { result ≡ causes.flat_cause_of all stop }
+    ensures { result ≡ causes.none_deep_cause_of all stop }
 {
     match stop {
         Stop::Left(left) => Cause::NoUnit(all - left),
@@ -75,13 +75,13 @@ fn deep_cause(stop: Stop, deep: usize) -> Cause
 /// The unit that the lexemes are, or why they are none. They stop at the first place such that no unit begins with them up
 /// to and with it; one of nesting 65 counts where it stands before that place.
 pub fn unit_of(alloc: Global, lexemes: &[Lexeme<'_>]) -> Result<Unit, Cause>
-    ensures ok { IfOk result (law.FlatUnit (lexemes_of lexemes.now)) }
+    ensures ok { IfOk result (law.UnitNoneDeep (lexemes_of lexemes.now)) }
     ensures err { IfErr result (r.HasCause (lexemes_of lexemes.now)) }
 {
     match first_deep(lexemes, 0) {
         None => match whole(alloc, lexemes) {
             Ok(unit) => Ok(unit),
-            Err(stop) => Err(flat_cause(stop, lexemes.len())),
+            Err(stop) => Err(none_deep_cause(stop, lexemes.len())),
         },
         Some(deep) => match whole(alloc, &lexemes[..deep + 1]) {
             Ok(_) => Err(Cause::TooDeep(deep)),
@@ -131,7 +131,7 @@ pub fn parse(alloc: Global, text: &str, tokens: &[Token<'_>]) -> Result<Unit, De
     requires fits { length text.now < u32.MAX }
     requires tokens { Tokens text.now (map token_view tokens.now) }
     ensures ok { IfOk result (reads.Reads text.now) }
-    ensures flat { IfOk result (law.FlatUnit (reads.lexemes (map token_view tokens.now))) }
+    ensures none_deep { IfOk result (law.UnitNoneDeep (reads.lexemes (map token_view tokens.now))) }
     ensures refused { IfErr result (λ e. OnRefused e (r.Says text.now (reads.lexemes (map token_view tokens.now)))) }
 {
     let lexemes = lexemes(alloc, tokens)?;

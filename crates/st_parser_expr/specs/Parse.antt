@@ -5,7 +5,7 @@ use Rattle.st_tree.specs.Grammar.{Lexeme, expression}
 use Rattle.st_tree.specs.Nesting.{NoneDeep, FirstDeep}
 use Rattle.st_tree.specs.Beginnings.{Language, Begins, StopsAt}
 use Rattle.st_parser_expr.specs.declared.stop.ParseError.{ParseError}
-use Rattle.st_parser_expr.specs.declared.stop.ParseError.TheVariants.{Syntax, Nesting, NoMemory}
+use Rattle.st_parser_expr.specs.declared.stop.ParseError.TheVariants as error
 
 -- the lexemes spell the expression
 abbrev pub Spells : List Lexeme → Expression ℕ → Type 0
@@ -27,13 +27,13 @@ pub record Refused (ts : List Lexeme) (start p : ℕ) : Type 0 where
   pub none : (e : Expression ℕ) → Spells (take (p - start) ts) e → ⊥
 
 -- the answer where an expression ends: no lexeme before its end is too deep
-pub record ParsedWithin (ts : List Lexeme) (start end : ℕ) (e : Expression ℕ) : Type 0 where
+pub record ParsedNoneDeep (ts : List Lexeme) (start end : ℕ) (e : Expression ℕ) : Type 0 where
   pub parsed : Parsed ts start end e
-  pub flat : NoneDeep ts (end - start)
+  pub none_deep : NoneDeep ts (end - start)
 
-pub record RefusedWithin (ts : List Lexeme) (start p : ℕ) : Type 0 where
+pub record RefusedNoneDeep (ts : List Lexeme) (start p : ℕ) : Type 0 where
   pub refused : Refused ts start p
-  pub flat : NoneDeep ts (p - start)
+  pub none_deep : NoneDeep ts (p - start)
 
 pub record DeepAt (ts : List Lexeme) (start q : ℕ) : Type 0 where
   pub starts : start ≤ q
@@ -47,6 +47,6 @@ pub record TooDeep (ts : List Lexeme) (start q : ℕ) : Type 0 where
 
 -- why no expression was read
 abbrev pub HasCause : List Lexeme → ℕ → ParseError → Type 0
-HasCause ts start (Syntax p) = RefusedWithin ts start p
-HasCause ts start (Nesting q) = TooDeep ts start q
-HasCause ts start NoMemory = Unit {0}
+HasCause ts start (error.Syntax p) = RefusedNoneDeep ts start p
+HasCause ts start (error.TooDeep q) = TooDeep ts start q
+HasCause ts start error.NoMemory = Unit {0}

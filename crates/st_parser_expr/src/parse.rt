@@ -63,14 +63,14 @@ pub fn first_deep(lexemes: &[Lexeme<'_>], at: usize) -> Option<usize>
 }
 
 /// The longest expression from `at` on, and where it ends. The lexemes stop at the first place such that no expression
-/// begins with them up to and with it. `Nesting` comes exactly where one of nesting 65 stands before that place.
+/// begins with them up to and with it. `TooDeep` comes exactly where one of nesting 65 stands before that place.
 pub fn parse_expr(
     alloc: Global,
     lexemes: &[Lexeme<'_>],
     at: usize,
 ) -> Result<(Expr<u32>, usize), ParseError>
     requires { at ≤ length lexemes.now }
-    ensures ok { IfOk result (λ y. n.ParsedWithin (lexemes_of (drop at lexemes.now)) at y.1 (expression_of y.0)) }
+    ensures ok { IfOk result (λ y. n.ParsedNoneDeep (lexemes_of (drop at lexemes.now)) at y.1 (expression_of y.0)) }
     ensures err { IfErr result (n.HasCause (lexemes_of (drop at lexemes.now)) at) }
 {
     match first_deep(lexemes, at) {
@@ -80,7 +80,7 @@ pub fn parse_expr(
         },
         Some(q) => match longest(alloc, &lexemes[..q + 1], at) {
             Ok((e, end)) => if end > q {
-                Err(ParseError::Nesting(q))
+                Err(ParseError::TooDeep(q))
             } else {
                 Ok((e, end))
             },
@@ -104,7 +104,7 @@ fn deep_error(e: Fault, q: usize) -> ParseError
 {
     match e {
         Fault::Syntax(p) => if p > q {
-            ParseError::Nesting(q)
+            ParseError::TooDeep(q)
         } else {
             ParseError::Syntax(p)
         },

@@ -13,7 +13,7 @@ use Rattle.st_tree.specs.Headings.{declaration_of}
 pub record NoUnitAt (ts : List Lexeme) (p : ℕ) : Type 0 where
   pub stops : StopsAt IsUnit ts p
   pub no_unit : IsUnit ts → ⊥
-  pub flat : NoneDeep ts p
+  pub none_deep : NoneDeep ts p
 
 -- the first lexeme of nesting 65 stands at p, and a unit still begins with the lexemes up to and with it
 pub record TooDeepAt (ts : List Lexeme) (p : ℕ) : Type 0 where

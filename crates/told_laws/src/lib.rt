@@ -2,6 +2,6 @@
 //! constants be found one by one, in any order, where the definitions go over all names in rounds.
 #![tactic(auto)]
 
-mod laws;
+mod told;
 
-pub use laws::{local_laws, telling_laws, told_laws};
+pub use told::{local_laws, telling_laws, told_laws};

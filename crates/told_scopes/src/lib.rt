@@ -1,6 +1,6 @@
 //! Why the values of constants have types in all scopes of a unit.
 #![tactic(auto)]
 
-mod laws;
+mod scopes;
 
-pub use laws::scope_laws;
+pub use scopes::scope_laws;

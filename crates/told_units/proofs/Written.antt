@@ -21,7 +21,7 @@ use Rattle.st_rules.specs.Literals.{asked_of}
 use Rattle.st_rules.specs.Scope.{Scope, type_named, is_external}
 use Rattle.st_rules.specs.Expressions.{line_of, type_of, index_unsuited, is_no_index, reference_to}
 use Rattle.declared_names.specs.Constants.{constant_faults, names_are_told, told_value}
-use Rattle.declared_names.specs.WrittenTypes.{in_array, array_of, is_number_type, dimensions, type_declared, named_type, bound_value, element_written, arrays_of, type_written, bound_faults, lies_above, lower_bound_above, dimension_faults, type_not_found, is_instance_told, reference_to_another_type, element_faults, type_faults}
+use Rattle.declared_names.specs.WrittenTypes.{in_array, array_of, is_number_type, dimensions, type_declared, named_type, bound_value, element_written, arrays_of, type_written, bounds_faults, lies_above, lower_bound_above, dimension_faults, type_not_found, is_instance_told, reference_to_another_type, element_faults, type_faults}
 use Rattle.declared_names.specs.Variables.{Written, declares_constants, may_be_constant, value_given, constant_of}
 use Rattle.declared_names.specs.Declarations.{item_line}
 use Rattle.st_unit_rules.specs.Initials.{part_faults, count_parts, list_of_no_array, is_no_array, more_values_than_elements, element_given, list_of_no_fields, given_faults}
@@ -67,7 +67,7 @@ module _ (s : Scope) (w : ValuesHaveTypes s) where
 
   -- ---- bounds
 
-  pub bound-told : (e : Expression ℕ) → HasNames e → Every (IsToldNamed s) (named_in e) → bound_faults s e ≡ [] → is_some (bound_value s e) ≡ true
+  pub bound-told : (e : Expression ℕ) → HasNames e → Every (IsToldNamed s) (named_in e) → bounds_faults s e ≡ [] → is_some (bound_value s e) ≡ true
   bound-told e n g f =
       let p = none-of (constant_faults s Anything e) (index_unsuited (line_of e) (type_of s Anything e)) f in
       let k = kind-of s w Anything e n tt (is_named Anything e g p.0) p.0 in
@@ -89,8 +89,8 @@ module _ (s : Scope) (w : ValuesHaveTypes s) where
       let high = expression_of b.high in
       let xb = every_front (IsToldNamed s) (named_in low ++ named_in high) (in_each bs) x in
       let p = none-of (dimension_faults s b) (flat_map (dimension_faults s) bs) f in
-      let q = none-of (bound_faults s low ++ bound_faults s high) (lower_bound_above s low high) p.0 in
-      let r = none-of (bound_faults s low) (bound_faults s high) q.0 in
+      let q = none-of (bounds_faults s low ++ bounds_faults s high) (lower_bound_above s low high) p.0 in
+      let r = none-of (bounds_faults s low) (bounds_faults s high) q.0 in
       array-told (bound_value s low) (bound_value s high) (arrays_of s bs t) (bound-told low (n.0).0 (every_front (IsToldNamed s) (named_in low) (named_in high) xb) r.0)
       (bound-told high (n.0).1 (every_back (IsToldNamed s) (named_in low) (named_in high) xb) r.1) (arrays-told bs t h n.1 (every_back (IsToldNamed s) (named_in low ++ named_in high) (in_each bs) x) p.1)
       (holds-not (lies_above s (bound_value s low) (bound_value s high)) E13 (line_of low) q.1)

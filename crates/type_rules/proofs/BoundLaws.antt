@@ -8,7 +8,7 @@ use Rattle.st_rules.specs.Faults.{least, earlier, when}
 use Rattle.st_rules.specs.Scope.{Scope}
 use Rattle.st_rules.specs.Expressions.{line_of, type_of, index_unsuited}
 use Rattle.declared_names.specs.Constants.{if_none, constant_value, value_faults, constant_faults, told_value, names_are_told}
-use Rattle.declared_names.specs.WrittenTypes.{is_number_type, bound_value, bound_faults, lies_above}
+use Rattle.declared_names.specs.WrittenTypes.{is_number_type, bound_value, bounds_faults, lies_above}
 use Rattle.st_unit_rules.specs.Initials.{outcome_target, with_note}
 use Rattle.initial_rules.specs.Constant.{Constant}
 use Rattle.initial_rules.specs.Faults.{IsConstant}
@@ -49,8 +49,8 @@ dimension_checks s b d x y line l f g w =
     record {
       low = w.low ∙ f.value;
       high = w.high ∙ g.value;
-      least = joined d.least (earlier x.least y.least) (least (when (above x.value y.value) E13 line)) (bound_faults s e ++ bound_faults s u) (when (lies_above s (bound_value s e) (bound_value s u)) E13 (line_of e)) w.least
-          (joined (earlier x.least y.least) x.least y.least (bound_faults s e) (bound_faults s u) refl f.least g.least)
+      least = joined d.least (earlier x.least y.least) (least (when (above x.value y.value) E13 line)) (bounds_faults s e ++ bounds_faults s u) (when (lies_above s (bound_value s e) (bound_value s u)) E13 (line_of e)) w.least
+          (joined (earlier x.least y.least) x.least y.least (bounds_faults s e) (bounds_faults s u) refl f.least g.least)
           (ap (λ c. least (when c E13 line)) (above_is s x.value y.value ∙ ap (λ v. lies_above s v y.value) f.value ∙ ap (lies_above s (bound_value s e)) g.value)
           ∙ ap (λ n. least (when (lies_above s (bound_value s e) (bound_value s u)) E13 n)) l);
       bounds = record {

@@ -1,6 +1,6 @@
 //! The type of each region of a checked program of a good unit unfolds: what the rules of a unit accept can be laid out and run.
 #![tactic(auto)]
 
-mod laws;
+mod unfolded;
 
-pub use laws::unfolding_laws;
+pub use unfolded::unfolding_laws;

@@ -17,9 +17,9 @@ abbrev pub HasStop : List Lexeme → Stop → Type 0
 HasStop ts (Left n) = NoUnitLeft ts n
 HasStop ts NoMemory = Unit {0}
 
-abbrev pub flat_cause_of : ℕ → Stop → Cause
-flat_cause_of all (Left n) = cause.NoUnit (all - n)
-flat_cause_of all NoMemory = cause.NoMemory
+abbrev pub none_deep_cause_of : ℕ → Stop → Cause
+none_deep_cause_of all (Left n) = cause.NoUnit (all - n)
+none_deep_cause_of all NoMemory = cause.NoMemory
 
 abbrev pub deep_cause_of : ℕ → Stop → Cause
 deep_cause_of deep (Left n) = if nat_lt 0 n then cause.NoUnit (deep - (n - 1)) else cause.TooDeep deep

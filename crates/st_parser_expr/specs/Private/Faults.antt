@@ -4,7 +4,7 @@ use Rattle.st_tree.specs.Grammar.{Lexeme}
 use Rattle.st_parser_expr.specs.declared.stop.Fault.{Fault}
 use Rattle.st_parser_expr.specs.declared.stop.Fault.TheVariants as fault
 use Rattle.st_parser_expr.specs.declared.stop.ParseError.{ParseError}
-use Rattle.st_parser_expr.specs.declared.stop.ParseError.TheVariants.{Syntax, Nesting, NoMemory}
+use Rattle.st_parser_expr.specs.declared.stop.ParseError.TheVariants.{Syntax, TooDeep, NoMemory}
 use Rattle.st_parser_expr.specs.Parse.{Refused}
 
 abbrev pub HasFault : List Lexeme → ℕ → Fault → Type 0
@@ -17,5 +17,5 @@ error_of fault.NoMemory = NoMemory
 
 -- where the lexemes up to and with q were read
 abbrev pub deep_error_of : Fault → ℕ → ParseError
-deep_error_of (fault.Syntax p) q = if nat_lt q p then Nesting q else Syntax p
+deep_error_of (fault.Syntax p) q = if nat_lt q p then TooDeep q else Syntax p
 deep_error_of fault.NoMemory q = NoMemory

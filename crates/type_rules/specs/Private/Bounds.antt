@@ -7,7 +7,7 @@ use Rattle.st_rules.specs.declared.asked.Asked.TheVariants.{Anything}
 use Rattle.st_rules.specs.Faults.{least, earlier, when}
 use Rattle.st_rules.specs.Scope.{Scope}
 use Rattle.st_rules.specs.Expressions.{index_unsuited}
-use Rattle.declared_names.specs.WrittenTypes.{is_number_type, bound_value, bound_faults, dimension_faults}
+use Rattle.declared_names.specs.WrittenTypes.{is_number_type, bound_value, bounds_faults, dimension_faults}
 use Rattle.st_unit_rules.specs.Initials.{outcome_target, with_note, typed_constant}
 use Rattle.st_unit_rules.specs.Checked.{TypedBounds}
 use Rattle.written_types.specs.Outcome.{outcome}
@@ -31,7 +31,7 @@ pub record IsBound (b : CheckedBound) (line : ℕ) (told : Bool) (c : Constant) 
 
 pub record BoundChecks (b : CheckedBound) (s : Scope) (e : Expression ℕ) : Type 0 where
   pub value : b.value ≡ bound_value s e
-  pub least : b.least ≡ least (bound_faults s e)
+  pub least : b.least ≡ least (bounds_faults s e)
   pub tree : expression_of b.tree ≡ typed_constant s Anything e
 
 -- bounds of which the lower one, the first, stands at this line

@@ -1,0 +1,5 @@
+use Rattle.passing_laws.proofs.AllLaws.{laws}
+use Rattle.passing_laws.proofs.passing.passing_laws.Goals as goal
+
+pub returns : goal.returns
+returns c = laws
