@@ -2,6 +2,6 @@
 //! (IEC 61131-3:2013, Annex A and 6.4).
 #![tactic(auto)]
 
-mod laws;
+mod texts;
 
-pub use laws::formed_text_laws;
+pub use texts::formed_text_laws;

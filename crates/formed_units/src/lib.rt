@@ -2,6 +2,6 @@
 //! index, enumerations have values, and no name is empty.
 #![tactic(auto)]
 
-mod laws;
+mod formed;
 
-pub use laws::formed_laws;
+pub use formed::formed_laws;

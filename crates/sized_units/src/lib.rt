@@ -1,6 +1,6 @@
 //! What the program of a good unit lays out is small and few (IEC 61131-3:2013, 6.4, 6.5 and 6.8).
 #![tactic(auto)]
 
-mod laws;
+mod sized;
 
-pub use laws::sized_unit_laws;
+pub use sized::sized_unit_laws;
