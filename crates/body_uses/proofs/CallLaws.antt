@@ -14,7 +14,7 @@ use Rattle.st_tree.specs.declared.program.Note.{Note}
 use Rattle.st_tree.specs.Expression.{Expression, expression_of, expression_of-Int, expression_of-Typed, expression_of-Time, expression_of-True, expression_of-False, expression_of-Null, expression_of-Call, expression_of-Enumerator, expression_of-Ref, expression_of-Now, expression_of-Paren, expression_of-Not, expression_of-Negate, expression_of-Chain, selector_of, selector_of-Field, selector_of-Target, selectors_of}
 use Rattle.st_values.specs.Program.{Program}
 use Rattle.st_meaning.specs.Expression.{selector_note}
-use Rattle.st_frame.specs.Use.{Use, expression_uses, selector_uses, bound_uses, receiver, last_kind}
+use Rattle.st_meaning.specs.st_frame.Use.{Use, expression_uses, selector_uses, bound_uses, receiver, last_kind}
 
 -- ---- the receiver
 

@@ -15,7 +15,7 @@ use Rattle.st_tree.specs.Expression.{Expression, expression_of, place_of, select
 use Rattle.st_tree.specs.Statement.{Statement, statement_of, statement_of-Empty, statement_of-Exit, statement_of-Continue, statement_of-Return, statement_of-If, statement_of-Case, statement_of-For, statement_of-While, statement_of-Repeat, statements_of, branches_of, cases_of, otherwise_of, otherwise_of-Nothing, branch_of, branch_of-is}
 use Rattle.st_values.specs.Initial.{note_of}
 use Rattle.st_values.specs.Program.{Program}
-use Rattle.st_frame.specs.Use.{Use, owner_uses, changed, named_region, name_uses, expression_uses, place_uses, tried, step_uses, statement_uses, body_uses, branch_uses, case_uses, otherwise_uses}
+use Rattle.st_meaning.specs.st_frame.Use.{Use, owner_uses, changed, named_region, name_uses, expression_uses, place_uses, tried, step_uses, statement_uses, body_uses, branch_uses, case_uses, otherwise_uses}
 use Rattle.body_uses.specs.Private.Statements.{assigned_uses}
 use Rattle.body_uses.proofs.UseLaws.{two, owner_at}
 

@@ -13,7 +13,7 @@ use Rattle.st_tree.specs.Expression.{expression_of, expression_of-Call, expressi
 use Rattle.st_values.specs.Program.{Parameter, Program}
 use Rattle.st_meaning.specs.Place.{root_note}
 use Rattle.st_meaning.specs.Call.{parameter_named, next_parameter}
-use Rattle.st_frame.specs.Use.{Called, Use, owner_uses, root_uses, called_of, call_use, called_parameters, is_bound, bound_uses, along_uses, selector_uses, expression_uses, tail_uses, argument_uses, place_uses, call_uses}
+use Rattle.st_meaning.specs.st_frame.Use.{Called, Use, owner_uses, root_uses, called_of, call_use, called_parameters, is_bound, bound_uses, along_uses, selector_uses, expression_uses, tail_uses, argument_uses, place_uses, call_uses}
 use Rattle.body_uses.specs.Private.Uses.{one_argument}
 use Rattle.body_uses.proofs.CallLaws.{none_in_field, none_in_target}
 

@@ -1,8 +1,8 @@
 -- The code's uses as those of the definition.
 use Rattle.std.specs.Prelude.{List, map}
-use Rattle.st_frame.specs.Use.{Called, the_function, a_method_of, a_method_from, a_body_of, the_body_from, Owner, the_region, the_instances, Use, names, follows, calls, changes}
+use Rattle.st_meaning.specs.st_frame.Use.{Called, the_function, a_method_of, a_method_from, a_body_of, the_body_from, Owner, the_region, the_instances, Use, names, follows, calls, changes}
 use Rattle.routine_tables.specs.Tables.{Holds}
-use Rattle.signature_tables.specs.Tables.{Declares}
+use Rattle.routine_tables.specs.signature_tables.Tables.{Declares}
 use Rattle.body_uses.specs.declared.uses.Called.{Called as CodeCalled}
 use Rattle.body_uses.specs.declared.uses.Called.TheVariants as called
 use Rattle.body_uses.specs.declared.uses.Owner.{Owner as CodeOwner}

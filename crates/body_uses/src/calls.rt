@@ -5,7 +5,7 @@ ghost use Rattle.st_tree.specs.Expression.{selectors_of};
 ghost use Rattle.st_meaning.specs.Place.{root_note};
 ghost use Rattle.st_values.specs.Program as plain;
 ghost use Rattle.st_values.specs.View.{program_of};
-ghost use Rattle.st_frame.specs.Use as words;
+ghost use Rattle.st_meaning.specs.st_frame.Use as words;
 ghost use Rattle.program_tables.specs.Routine.{routine_of};
 ghost use Rattle.routine_tables.specs.Parameters.{parameter_of, parameters_of};
 ghost use Rattle.call_steps.specs.Callee.{callee_seen};
@@ -17,8 +17,8 @@ use crate::uses::{Called, Use};
 use call_steps::{Callee, Search, callee_of};
 use plc_text::{NoMemory, Text};
 use program_tables::{ProgramTables, RoutineId};
+use routine_tables::signature_tables::SignatureTables;
 use routine_tables::{Parameter, RoutineTables};
-use signature_tables::SignatureTables;
 use st_tree::{Note, Root, SectionSort, Selector};
 use st_types::StType;
 

@@ -4,7 +4,7 @@ ghost use Rattle.std.specs.Prelude.{◌≡◌, ◌++◌, OnOk};
 ghost use Rattle.st_tree.specs.Expression.{expression_of, expressions_of, selector_of, selectors_of, place_of, argument_of, arguments_of, tail_of, tails_of};
 ghost use Rattle.st_meaning.specs.Place.{root_note};
 ghost use Rattle.st_values.specs.View.{program_of};
-ghost use Rattle.st_frame.specs.Use as words;
+ghost use Rattle.st_meaning.specs.st_frame.Use as words;
 ghost use Rattle.routine_tables.specs.Parameters.{parameters_of};
 ghost use Rattle.body_uses.specs.Uses.{uses_of, Knows};
 ghost use Rattle.body_uses.specs.Private.Uses.{behind_argument, called_if, one_argument};

@@ -3,7 +3,7 @@
 ghost use Rattle.std.specs.Prelude.{◌≡◌, ◌++◌, option_map, OnOk};
 ghost use Rattle.st_tree.specs.Expression.{selectors_of};
 ghost use Rattle.st_meaning.specs.Place.{root_note};
-ghost use Rattle.st_frame.specs.Use as words;
+ghost use Rattle.st_meaning.specs.st_frame.Use as words;
 ghost use Rattle.body_uses.specs.Uses.{uses_of};
 ghost use Rattle.body_uses.specs.Private.Uses.{owner_if};
 

@@ -6,7 +6,7 @@ ghost use Rattle.st_values.specs.Initial as initial_words;
 ghost use Rattle.st_meaning.specs.Place as place_words;
 ghost use Rattle.st_meaning.specs.Expression as expression_words;
 ghost use Rattle.st_values.specs.Program.{Program};
-ghost use Rattle.st_frame.specs.Use as words;
+ghost use Rattle.st_meaning.specs.st_frame.Use as words;
 ghost use Rattle.body_uses.specs.Uses.{uses_of};
 
 use crate::uses::Use;

@@ -5,7 +5,7 @@ ghost use Rattle.st_tree.specs.Expression.{expression_of, place_of};
 ghost use Rattle.st_tree.specs.Statement.{statement_of, statements_of, branch_of, branches_of, case_branch_of, cases_of, otherwise_of};
 ghost use Rattle.st_values.specs.Initial as initial_words;
 ghost use Rattle.st_values.specs.View.{program_of};
-ghost use Rattle.st_frame.specs.Use as words;
+ghost use Rattle.st_meaning.specs.st_frame.Use as words;
 ghost use Rattle.program_tables.specs.Routine.{routine_of};
 ghost use Rattle.body_uses.specs.Uses.{uses_of, Knows};
 ghost use Rattle.body_uses.specs.Private.Statements.{assigned_uses, range_uses};

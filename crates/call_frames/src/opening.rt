@@ -12,9 +12,8 @@ ghost use Rattle.call_frames.specs.Opening.{given_of, opened};
 ghost use Rattle.call_frames.specs.Private.Slots.{one_variable};
 
 use crate::slots::{Given, initial_slots, set_slot};
-use initial_trees::st_initial::{Members, Variable};
-use plc_series::Series;
-use plc_text::{FaultKind, NoMemory};
+use initial_trees::program_tables::{Members, Variable};
+use plc_text::{FaultKind, NoMemory, Series};
 use run_state::{Frame, RunState, Slot, Spot, Stop, fault, into_part, push, put};
 use st_tree::{Path, Program, Step};
 use std::alloc::Global;

@@ -8,9 +8,8 @@ ghost use Rattle.initial_trees.specs.Variables.{variable_of, variables_of};
 ghost use Rattle.run_state.specs.State.{slot_of};
 
 use initial_trees::initial_value;
-use initial_trees::st_initial::{Members, Variable};
-use plc_series::Series;
-use plc_text::NoMemory;
+use initial_trees::program_tables::{Members, Variable};
+use plc_text::{NoMemory, Series};
 use run_state::Slot;
 use st_tree::{Program, SectionSort};
 use std::alloc::Global;

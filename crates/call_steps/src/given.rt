@@ -9,8 +9,7 @@ ghost use Rattle.value_trees.specs.Value.{value_of};
 ghost use Rattle.call_steps.specs.Private.Given.{SameAdds, same_of, same_one};
 
 use call_frames::Given;
-use plc_series::Series;
-use plc_text::NoMemory;
+use plc_text::{NoMemory, Series};
 use routine_tables::{Parameter, Recipient};
 use run_state::{RunState, Slot, Spot, Stop, local_spot};
 use st_tree::{Note, SectionSort, Target};

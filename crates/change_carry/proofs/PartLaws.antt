@@ -18,7 +18,7 @@ use Rattle.shape_trees.specs.declared.shape.Field.{Field as CodeField}
 use Rattle.value_trees.specs.Value.{value_of, members_of}
 use Rattle.value_trees.specs.declared.value.Member.{Member as CodeMember}
 use Rattle.value_trees.proofs.Parts.{members_get}
-use Rattle.change_pairs.specs.Places.{Table, found_in, Finds, first_where}
+use Rattle.change_names.specs.change_pairs.Places.{Table, found_in, Finds, first_where}
 use Rattle.change_carry.specs.Private.Parts.{Elements, elements_in, element_at, element_old, Parts, structure_parts, instance_parts, part_in, part_named, ArePlacesOf}
 
 -- ---- elements

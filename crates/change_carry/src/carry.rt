@@ -5,7 +5,7 @@ ghost use Rattle.st_change.specs.Carry as words;
 ghost use Rattle.st_values.specs.View.{program_of};
 ghost use Rattle.shape_trees.specs.Shape.{field_of, fields_of, shape_of};
 ghost use Rattle.value_trees.specs.Value.{members_of, value_of, values_of};
-ghost use Rattle.change_paths.specs.Change.{IsChange};
+ghost use Rattle.change_names.specs.change_paths.Change.{IsChange};
 ghost use Rattle.change_carry.specs.Private.Carry.{carried, element_by, elements_by, elements_carried, instance_by, member_by, structure_by};
 ghost use Rattle.change_carry.specs.Private.Parts.{ArePlacesOf, element_old, elements_of, part_named, parts_of};
 
@@ -15,10 +15,8 @@ use crate::parts::{
     part_before, structure_names, variables_before,
 };
 use crate::references::reference_before;
-use change_pairs::{PairTable, Places};
-use change_paths::Change;
-use plc_series::Series;
-use plc_text::NoMemory;
+use change_names::{Change, PairTable, Places};
+use plc_text::{NoMemory, Series};
 use shape_trees::{Field, Shape};
 use std::mem;
 use value_trees::{Member, Value};

@@ -7,6 +7,5 @@ mod parts;
 mod references;
 mod store;
 
-pub use change_paths;
-pub use change_paths::change_names;
+pub use change_names;
 pub use store::carry_store;

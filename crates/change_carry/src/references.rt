@@ -6,10 +6,10 @@ ghost use Rattle.st_values.specs.Shape.{path_shape};
 ghost use Rattle.st_values.specs.View.{program_of};
 ghost use Rattle.shape_trees.specs.Shape.{shape_of};
 ghost use Rattle.value_trees.specs.Value.{value_of};
-ghost use Rattle.change_paths.specs.Change.{IsChange};
+ghost use Rattle.change_names.specs.change_paths.Change.{IsChange};
 ghost use Rattle.change_carry.specs.Private.References.{reference_by, reference_from, value_relocated};
 
-use change_paths::{Change, new_path};
+use change_names::{Change, new_path};
 use plc_text::NoMemory;
 use shape_trees::{Shape, region_shape, shape_at};
 use st_tree::Path;

@@ -7,14 +7,13 @@ ghost use Rattle.st_change.specs.From as from;
 ghost use Rattle.st_values.specs.Value.{member};
 ghost use Rattle.st_values.specs.View.{program_of, region_of};
 ghost use Rattle.value_trees.specs.Value.{members_of, value_of};
-ghost use Rattle.change_paths.specs.Change.{IsChange};
+ghost use Rattle.change_names.specs.change_paths.Change.{IsChange};
 ghost use Rattle.change_carry.specs.Store.{is_set};
 ghost use Rattle.change_carry.specs.Private.Carry.{member_by, region_by, region_carried};
 
 use crate::carry::{carry, stays};
-use change_paths::Change;
-use plc_series::Series;
-use plc_text::{NoMemory, narrowed};
+use change_names::Change;
+use plc_text::{NoMemory, Series, narrowed};
 use shape_trees::region_shape;
 use st_tree::RegionDecl;
 use value_trees::{Member, Value};

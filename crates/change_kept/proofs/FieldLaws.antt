@@ -3,7 +3,7 @@ use Rattle.std.proofs.Common.{◌≡◌, ◌<◌, ℕ, zero, suc, ◌+◌, Bool,
 use Rattle.std.specs.Prelude.{◌&&◌, ◌||◌, slice_get}
 use Rattle.st_rules.proofs.ListLaws.{drop-at}
 use Rattle.st_values.specs.Shape.{has_instance}
-use Rattle.st_initial.specs.Variables.{variable_of}
+use Rattle.program_tables.specs.st_initial.Variables.{variable_of}
 use Rattle.st_change.specs.Counterpart.{has_fresh, a_field_is_fresh, is_unmarked, unmarked_field}
 use Rattle.shape_trees.specs.declared.shape.Field.{Field as CodeField}
 use Rattle.shape_trees.specs.Shape.{shape_of, fields_of, field-is}

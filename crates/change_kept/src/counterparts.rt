@@ -1,7 +1,7 @@
 //! Instances that go on from old ones.
 
 ghost use Rattle.std.specs.Prelude.{◌≡◌, IfOk, Some};
-ghost use Rattle.change_paths.specs.Change.{IsChange};
+ghost use Rattle.change_names.specs.change_paths.Change.{IsChange};
 ghost use Rattle.change_kept.specs.Kept.{AreKept};
 ghost use Rattle.reference_hooks.specs.Hooks.{member_of};
 ghost use Rattle.shape_trees.specs.Shape.{shape_of};
@@ -13,7 +13,7 @@ ghost use Rattle.st_values.specs.Value.{◌>>=◌ as and_then};
 ghost use Rattle.st_values.specs.View.{program_of};
 
 use crate::marks::moves;
-use change_paths::{Change, new_path, old_path};
+use change_names::{Change, new_path, old_path};
 use plc_text::{NoMemory, Text};
 use reference_hooks::Instance;
 use shape_trees::{Shape, Shapes, class_name, region_shape, shape_at};

@@ -6,12 +6,12 @@ ghost use Rattle.st_change.specs.Counterpart as plain;
 ghost use Rattle.st_change.specs.Instances.{further};
 ghost use Rattle.st_values.specs.View.{program_of};
 ghost use Rattle.reference_hooks.specs.Hooks.{member_of};
-ghost use Rattle.change_paths.specs.Change.{IsChange};
+ghost use Rattle.change_names.specs.change_paths.Change.{IsChange};
 ghost use Rattle.change_kept.specs.Kept.{AreKept};
 ghost use Rattle.change_kept.specs.Private.Instances.{AddsElements, AddsFields, AddsRegion, AddsShape, is_first};
 
 use crate::kept::{is_set, number_in};
-use change_paths::Change;
+use change_names::Change;
 use plc_text::{NoMemory, narrowed};
 use reference_hooks::Instance;
 use shape_trees::{Field, Shape, Shapes};

@@ -1,14 +1,14 @@
 //! Which regions of a new program are kept.
 
 ghost use Rattle.std.specs.Prelude.{◌≡◌, IfOk, slice_get};
-ghost use Rattle.change_paths.specs.Regions.{number_at};
-ghost use Rattle.change_paths.specs.Change.{IsChange};
+ghost use Rattle.change_names.specs.change_paths.Regions.{number_at};
+ghost use Rattle.change_names.specs.change_paths.Change.{IsChange};
 ghost use Rattle.change_kept.specs.Kept.{AreKept, is_set};
 ghost use Rattle.st_change.specs.Counterpart as words;
 ghost use Rattle.st_values.specs.View.{program_of};
 
 use crate::fresh::is_made_anew;
-use change_paths::Change;
+use change_names::Change;
 use plc_text::NoMemory;
 use shape_trees::{region_shape, same_shape};
 

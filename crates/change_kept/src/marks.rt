@@ -1,18 +1,18 @@
 //! Marks of the variables on the way to a place.
 
 ghost use Rattle.std.specs.Prelude.{◌≡◌, ◌&&◌, not, Some, slice_get};
-ghost use Rattle.change_paths.specs.Change.{IsChange};
+ghost use Rattle.change_names.specs.change_paths.Change.{IsChange};
 ghost use Rattle.change_kept.specs.Kept.{AreKept};
 ghost use Rattle.shape_trees.specs.Shape.{fields_of, shape_of};
 ghost use Rattle.st_change.specs.Counterpart as words;
-ghost use Rattle.st_initial.specs.Variables.{variable_of};
+ghost use Rattle.program_tables.specs.st_initial.Variables.{variable_of};
 ghost use Rattle.st_values.specs.View.{program_of};
 
 use crate::kept::is_set;
-use change_paths::Change;
+use change_names::Change;
 use plc_text::Items;
+use program_tables::Variable;
 use shape_trees::{Field, Shape, part, region_shape};
-use st_initial::Variable;
 use st_tree::{Path, Step};
 
 /// Whether a variable goes on at each change.

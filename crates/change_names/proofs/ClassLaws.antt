@@ -14,8 +14,8 @@ use Rattle.st_values.specs.View.{sort_of, class_of, program_of, programs_from}
 use Rattle.st_values.specs.Value.{◌>>=◌}
 use Rattle.st_change.specs.From.{same_flag, is_program, of_sort, old_class, from, pairs_by, own_pairs, chain_pairs, class_pairs}
 use Rattle.program_tables.proofs.ClassLaws.{within_get, class_is_there, program_at, count_classes}
-use Rattle.change_pairs.specs.declared.sources.Pair.{Pair}
-use Rattle.change_pairs.specs.Pairs.{pairs_of}
+use Rattle.change_names.specs.declared.change_pairs.sources.Pair.{Pair}
+use Rattle.change_names.specs.change_pairs.Pairs.{pairs_of}
 use Rattle.change_names.specs.Private.Classes.{own_pairs_at, AreOwnPairs}
 use Rattle.change_names.proofs.ListLaws.{split}
 

@@ -6,7 +6,7 @@ use Rattle.std.specs.Prelude.{slice_get, option_map, if◌then◌else◌}
 use Rattle.plc_text.specs.Words.{same}
 use Rattle.st_rules.specs.Named.{first_place}
 use Rattle.st_rules.proofs.ListLaws.{take-at, take-end}
-use Rattle.change_pairs.specs.Places.{first_where}
+use Rattle.change_names.specs.change_pairs.Places.{first_where}
 
 at_end : {A : Type 0} (xs : List A) (x : A) → slice_get (xs ++ x ∷ []) (length xs) ≡ Some x
 at_end [] x = refl

@@ -5,9 +5,9 @@ use Rattle.st_rules.specs.Named.{first_place}
 use Rattle.st_values.specs.Program.{Region, Program}
 use Rattle.st_values.specs.Value.{◌>>=◌}
 use Rattle.st_change.specs.From.{Pairs, old_name, new_name, region_from, region_pairs_by, region_pairs, names_of_regions}
-use Rattle.change_pairs.specs.declared.regions.Placed.{Placed}
-use Rattle.change_pairs.specs.Places.{Table, found_in}
-use Rattle.change_pairs.specs.Regions.{regions_of}
+use Rattle.change_names.specs.declared.change_pairs.regions.Placed.{Placed}
+use Rattle.change_names.specs.change_pairs.Places.{Table, found_in}
+use Rattle.change_names.specs.change_pairs.Regions.{regions_of}
 use Rattle.change_names.specs.declared.regions.RegionNumbers.{RegionNumbers}
 use Rattle.change_names.specs.Regions.{number_at, AreNumbers}
 use Rattle.change_names.specs.Private.Places.{ArePlacesOf}

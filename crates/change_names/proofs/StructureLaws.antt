@@ -8,10 +8,10 @@ use Rattle.st_values.specs.Program.{Variable, TypeEntry, Program}
 use Rattle.st_values.specs.Shape.{fields_of}
 use Rattle.st_values.specs.View.{program_of, type_entry}
 use Rattle.st_change.specs.From.{Pairs, pairs_by, same_name, structure_named, structure_pairs}
-use Rattle.st_initial.specs.declared.members.Members.{Members}
-use Rattle.st_initial.specs.Members.{list_at, Holds}
-use Rattle.st_initial.specs.Variables.{or_none}
-use Rattle.change_pairs.specs.Places.{Table, found_in}
+use Rattle.program_tables.specs.declared.st_initial.members.Members.{Members}
+use Rattle.program_tables.specs.st_initial.Members.{list_at, Holds}
+use Rattle.program_tables.specs.st_initial.Variables.{or_none}
+use Rattle.change_names.specs.change_pairs.Places.{Table, found_in}
 use Rattle.change_names.specs.Private.Places.{ArePlacesOf, names_of}
 use Rattle.change_names.proofs.ListLaws.{map_map}
 

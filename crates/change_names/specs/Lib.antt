@@ -3,4 +3,6 @@ pub mod Pairs
 pub mod Private
 pub mod Regions
 pub mod Side
-pub use Rattle.change_pairs.specs.Places
+pub mod change_pairs
+pub mod change_paths
+pub use Rattle.change_names.specs.change_pairs.Places

@@ -1,7 +1,7 @@
 -- The tables of a program that changes.
 use Rattle.std.specs.Prelude.{◌≡◌}
 use Rattle.st_values.specs.View.{program_of}
-use Rattle.st_initial.specs.Members as members
+use Rattle.program_tables.specs.st_initial.Members as members
 use Rattle.change_names.specs.declared.side.Side.{Side}
 
 -- the tables are those of the program

@@ -2,20 +2,20 @@
 
 ghost use Rattle.std.specs.Prelude.{◌≡◌, ◌≤◌, ◌+◌, ◌++◌, ◌↔◌, ℕ, Some, IsTrue, length, IfOk, IfSome, OnOk, option_map};
 ghost use Rattle.st_change.specs.From as words;
-ghost use Rattle.st_initial.specs.Members.{list_at};
-ghost use Rattle.st_initial.specs.Variables.{variables_of};
+ghost use Rattle.program_tables.specs.st_initial.Members.{list_at};
+ghost use Rattle.program_tables.specs.st_initial.Variables.{variables_of};
 ghost use Rattle.st_values.specs.Program.{Class, class_at, own_of};
 ghost use Rattle.st_values.specs.View.{program_of};
-ghost use Rattle.change_pairs.specs.Pairs.{pairs_of};
+ghost use Rattle.change_names.specs.change_pairs.Pairs.{pairs_of};
 ghost use Rattle.change_names.specs.Pairs.{pairs_at};
 ghost use Rattle.change_names.specs.Side.{IsSide};
 ghost use Rattle.change_names.specs.Private.Classes.{AreOwnPairs, class_by, listed_at, own_pairs_at};
 
+use crate::change_pairs::{Pair, PairTable, origins};
 use crate::own::own_lists;
 use crate::side::Side;
-use change_pairs::{Pair, PairTable, origins};
 use plc_text::{Items, NoMemory, Text, narrowed};
-use st_initial::Variable;
+use program_tables::Variable;
 use st_tree::Program;
 use std::alloc::Global;
 

@@ -5,11 +5,11 @@ ghost use Rattle.st_values.specs.View.{program_of};
 ghost use Rattle.change_names.specs.Names.{AreNames};
 ghost use Rattle.change_names.specs.Side.{IsSide};
 
+use crate::change_pairs::PairTable;
 use crate::classes::class_tables;
 use crate::regions::{RegionNumbers, region_numbers};
 use crate::side::Side;
 use crate::structures::structure_tables;
-use change_pairs::PairTable;
 use plc_text::NoMemory;
 use std::alloc::Global;
 

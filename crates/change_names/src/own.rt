@@ -3,11 +3,11 @@
 ghost use Rattle.std.specs.Prelude.{◌≡◌, ◌+◌, ℕ, length, IfOk, IfSome};
 ghost use Rattle.st_values.specs.Program.{class_at, own_of};
 ghost use Rattle.st_values.specs.View as view;
-ghost use Rattle.st_initial.specs.Members.{list_at};
-ghost use Rattle.st_initial.specs.Variables.{variables_of};
+ghost use Rattle.program_tables.specs.st_initial.Members.{list_at};
+ghost use Rattle.program_tables.specs.st_initial.Variables.{variables_of};
 
 use plc_text::{Items, NoMemory};
-use st_initial::{Variable, push_own};
+use program_tables::{Variable, push_own};
 use st_tree::Program;
 use std::alloc::Global;
 

@@ -4,14 +4,14 @@ ghost use Rattle.std.specs.Prelude.{◌≡◌, IfOk, map, option_and_then};
 ghost use Rattle.st_change.specs.From as words;
 ghost use Rattle.st_values.specs.View as view;
 ghost use Rattle.st_values.specs.View.{program_of};
-ghost use Rattle.change_pairs.specs.Places.{found_in};
-ghost use Rattle.change_pairs.specs.Regions.{region_of, regions_of};
+ghost use Rattle.change_names.specs.change_pairs.Places.{found_in};
+ghost use Rattle.change_names.specs.change_pairs.Regions.{region_of, regions_of};
 ghost use Rattle.change_names.specs.Regions.{AreNumbers};
 ghost use Rattle.change_names.specs.Private.Places.{ArePlacesOf};
 
-use change_pairs::{PairTable, Placed, Places, place_of, put_name, region_origins};
+use crate::change_pairs::{PairTable, Placed, Places, place_of, put_name, region_origins};
 use plc_text::NoMemory;
-use st_initial::Variable;
+use program_tables::Variable;
 use st_tree::{Program, RegionDecl, SectionSort};
 use std::alloc::Global;
 use std::collections::HashMap;

@@ -1,7 +1,6 @@
 //! A program with its tables.
 
-use program_tables::ProgramTables;
-use st_initial::Members;
+use program_tables::{Members, ProgramTables};
 use st_tree::Program;
 
 /// A program with the tables of it that a change looks into.

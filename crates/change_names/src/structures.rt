@@ -3,18 +3,18 @@
 ghost use Rattle.std.specs.Prelude.{◌≡◌, IfOk, map, option_map};
 ghost use Rattle.st_rules.specs.Named.{first_place};
 ghost use Rattle.st_change.specs.From as words;
-ghost use Rattle.st_initial.specs.Variables.{variables_of};
+ghost use Rattle.program_tables.specs.st_initial.Variables.{variables_of};
 ghost use Rattle.st_values.specs.View.{program_of};
-ghost use Rattle.change_pairs.specs.Pairs.{pairs_of};
+ghost use Rattle.change_names.specs.change_pairs.Pairs.{pairs_of};
 ghost use Rattle.change_names.specs.Side.{IsSide};
 ghost use Rattle.change_names.specs.Private.Classes.{listed_at};
 ghost use Rattle.change_names.specs.Private.Places.{ArePlacesOf, names_of};
 
+use crate::change_pairs::{Pair, PairTable, Places, place_of, put_name, same_names};
 use crate::classes::list_of;
 use crate::side::Side;
-use change_pairs::{Pair, PairTable, Places, place_of, put_name, same_names};
 use plc_text::{Items, NoMemory, Text};
-use st_initial::Variable;
+use program_tables::Variable;
 use st_tree::{Note, TypeDecl};
 use std::alloc::Global;
 use std::collections::HashMap;

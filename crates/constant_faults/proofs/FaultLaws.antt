@@ -11,9 +11,9 @@ use Rattle.st_rules.specs.Scope.{Scope}
 use Rattle.st_rules.specs.Calls.{value_unsuited}
 use Rattle.st_rules.specs.Expressions.{line_of, type_of, typed, faults, too_many_operators}
 use Rattle.st_rules.proofs.FaultLaws.{least-append}
-use Rattle.declared_names.specs.Constants.{Outcome, comes_to, divides_by_zero, cannot_be_told, if_none, value_faults, constant_faults, constant_value, no_constant_part, zero_divisor}
-use Rattle.constant_values.specs.Outcome.{outcome}
-use Rattle.constant_values.specs.declared.outcome.Outcome.{Outcome as Held}
+use Rattle.st_unit_rules.specs.declared_names.Constants.{Outcome, comes_to, divides_by_zero, cannot_be_told, if_none, value_faults, constant_faults, constant_value, no_constant_part, zero_divisor}
+use Rattle.constant_folding.specs.constant_values.Outcome.{outcome}
+use Rattle.constant_folding.specs.declared.constant_values.outcome.Outcome.{Outcome as Held}
 use Rattle.constant_faults.specs.declared.faults.Constant.{Constant}
 use Rattle.constant_faults.specs.Faults.{IsConstant}
 use Rattle.constant_faults.specs.Private.Found.{number_found, own_least}

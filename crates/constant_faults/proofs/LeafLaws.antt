@@ -8,8 +8,8 @@ use Rattle.st_tree.specs.Expression.{Expression, Int, Typed, Time, True, False, 
 use Rattle.st_rules.specs.declared.asked.Asked.{Asked}
 use Rattle.st_rules.specs.Scope.{Scope}
 use Rattle.st_rules.specs.Expressions.{typed}
-use Rattle.declared_names.specs.Constants.{constant_value}
-use Rattle.constant_values.specs.Noted.{noted_value}
+use Rattle.st_unit_rules.specs.declared_names.Constants.{constant_value}
+use Rattle.constant_folding.specs.constant_values.Noted.{noted_value}
 use Rattle.constant_faults.specs.Private.Leaves.{is_leaf}
 
 -- the value of such an expression stands in its typed tree

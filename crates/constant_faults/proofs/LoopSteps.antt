@@ -5,7 +5,7 @@ use Rattle.st_tree.specs.declared.expression.Tail.{Tail}
 use Rattle.st_tree.specs.Expression.{Expression, Tails, tail_then, tail_of, tails_of}
 use Rattle.st_rules.specs.declared.asked.Asked.{Asked}
 use Rattle.st_rules.specs.Scope.{Scope}
-use Rattle.declared_names.specs.Constants.{Outcome}
+use Rattle.st_unit_rules.specs.declared_names.Constants.{Outcome}
 use Rattle.st_check_expr.proofs.LoopSteps.{tails_next, tails_end}
 use Rattle.constant_faults.specs.declared.rows.Ahead.{Ahead}
 use Rattle.constant_faults.specs.Rows.{Looks}

@@ -27,8 +27,8 @@ use Rattle.st_check_expr.specs.Callee.{Callee as CodeCallee}
 use Rattle.st_check_expr.specs.Callee.TheVariants as callees
 use Rattle.st_check_expr.specs.CalleeWords.{called}
 use Rattle.st_check_expr.proofs.NegateLaws.{sign_is}
-use Rattle.declared_names.specs.Constants.{Outcome, cannot_be_told, constant_value, kind_in, literal_outcome, outcome_map, operand_value, converted_value, conversion_asked}
-use Rattle.constant_values.specs.Outcome.{outcome}
+use Rattle.st_unit_rules.specs.declared_names.Constants.{Outcome, cannot_be_told, constant_value, kind_in, literal_outcome, outcome_map, operand_value, converted_value, conversion_asked}
+use Rattle.constant_folding.specs.constant_values.Outcome.{outcome}
 use Rattle.constant_faults.specs.declared.valued.Valued.{Valued}
 use Rattle.constant_faults.specs.declared.rows.Row.{Row}
 use Rattle.constant_faults.specs.Valued.{IsWorth, Denies, Negates}

@@ -9,9 +9,9 @@ use Rattle.st_rules.specs.declared.asked.Asked.TheVariants.{Anything}
 use Rattle.st_rules.specs.Kinds.{is_arithmetic, operation_type}
 use Rattle.st_rules.specs.Scope.{Scope}
 use Rattle.st_rules.specs.Expressions.{is_untyped, front_asked, asked_behind, operand_asked, type_of, row_type}
-use Rattle.declared_names.specs.Constants.{Outcome, kind_in, operated, constant_value, row_value}
+use Rattle.st_unit_rules.specs.declared_names.Constants.{Outcome, kind_in, operated, constant_value, row_value}
 use Rattle.st_check_expr.proofs.Parts.{both}
-use Rattle.constant_values.specs.Outcome.{outcome}
+use Rattle.constant_folding.specs.constant_values.Outcome.{outcome}
 use Rattle.constant_faults.specs.declared.valued.Valued.{Valued}
 use Rattle.constant_faults.specs.declared.rows.Row.{Row}
 use Rattle.constant_faults.specs.Valued.{IsWorth}

@@ -5,8 +5,8 @@ use Rattle.st_rules.specs.declared.asked.Asked.{Asked}
 use Rattle.st_rules.specs.Faults.{least}
 use Rattle.st_rules.specs.Scope.{Scope}
 use Rattle.st_rules.specs.Expressions.{type_of, typed}
-use Rattle.declared_names.specs.Constants.{if_none, value_faults, constant_faults, constant_value}
-use Rattle.constant_values.specs.Outcome.{outcome}
+use Rattle.st_unit_rules.specs.declared_names.Constants.{if_none, value_faults, constant_faults, constant_value}
+use Rattle.constant_folding.specs.constant_values.Outcome.{outcome}
 use Rattle.constant_faults.specs.declared.faults.Constant.{Constant}
 
 pub record IsConstant (c : Constant) (s : Scope) (asked : Asked) (e : Expression ℕ) : Type 0 where

@@ -2,4 +2,4 @@ pub mod Valued
 pub mod Rows
 pub mod Faults
 pub mod Private
-pub use Rattle.constant_values.specs.Outcome
+pub use Rattle.constant_folding.specs.constant_values.Outcome

@@ -4,8 +4,8 @@ use Rattle.st_tree.specs.declared.expression.Operator.{Operator}
 use Rattle.st_rules.specs.declared.asked.Asked.{Asked}
 use Rattle.st_rules.specs.Kinds.{is_arithmetic, operation_type}
 use Rattle.st_rules.specs.Literals.{asked_of, number_asked}
-use Rattle.declared_names.specs.Constants.{kind_in, operated}
-use Rattle.constant_values.specs.Outcome.{outcome}
+use Rattle.st_unit_rules.specs.declared_names.Constants.{kind_in, operated}
+use Rattle.constant_folding.specs.constant_values.Outcome.{outcome}
 use Rattle.constant_faults.specs.declared.valued.Valued.{Valued}
 use Rattle.constant_faults.specs.declared.rows.Row.{Row}
 use Rattle.constant_faults.specs.declared.rows.Ahead.{Ahead}

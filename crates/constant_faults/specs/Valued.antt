@@ -7,8 +7,8 @@ use Rattle.st_rules.specs.declared.asked.Asked.{Asked}
 use Rattle.st_rules.specs.Kinds.{unary_type, takes_not, takes_minus}
 use Rattle.st_rules.specs.Scope.{Scope}
 use Rattle.st_rules.specs.Expressions.{type_of}
-use Rattle.declared_names.specs.Constants.{constant_value, kind_in, outcome_map}
-use Rattle.constant_values.specs.Outcome.{outcome}
+use Rattle.st_unit_rules.specs.declared_names.Constants.{constant_value, kind_in, outcome_map}
+use Rattle.constant_folding.specs.constant_values.Outcome.{outcome}
 use Rattle.constant_faults.specs.declared.valued.Valued.{Valued}
 
 -- of an expression at a place that asks for something

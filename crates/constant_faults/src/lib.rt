@@ -7,8 +7,8 @@ mod rows;
 mod valued;
 mod walk;
 
-pub use constant_rules::{st_places, st_scope};
-pub use constant_values;
+pub use constant_folding;
+pub use constant_folding::{check_places, name_resolution};
 pub use faults::{Constant, check_constant};
 pub use valued::Valued;
 pub use walk::evaluate;

@@ -7,7 +7,7 @@ ghost use Rattle.st_rules.specs.Expressions as expressions;
 ghost use Rattle.constant_faults.specs.Rows.{Begins, Joins, EndsFront, Looks};
 
 use crate::valued::{Valued, kind_in};
-use constant_values::{Outcome, operated};
+use constant_folding::{Outcome, operated};
 use plc_text::NoMemory;
 use st_operators::{asked_of, is_arithmetic, number_asked, operation_type};
 use st_rules::{Asked, asked_again, copied};

@@ -2,10 +2,10 @@
 
 ghost use Rattle.std.specs.Prelude.{◌≡◌};
 ghost use Rattle.st_rules.specs.Kinds as kinds;
-ghost use Rattle.declared_names.specs.Constants as constants;
+ghost use Rattle.st_unit_rules.specs.declared_names.Constants as constants;
 ghost use Rattle.constant_faults.specs.Valued.{Denies, Negates};
 
-use constant_values::{Outcome, complemented, negated};
+use constant_folding::{Outcome, complemented, negated};
 use st_operators::{negated_type, noted_type};
 use st_types::{Elem, StType};
 

@@ -5,8 +5,8 @@ ghost use Rattle.st_types.specs.declared.st_type.StType.TheVariants as type;
 ghost use Rattle.st_tree.specs.Expression.{no_tails, expression_of, argument_of, arguments_of, tail_of, tails_of, place_of};
 ghost use Rattle.st_tree.specs.Expression as tree;
 ghost use Rattle.st_rules.specs.declared.asked.Asked.TheVariants.{Wanted};
-ghost use Rattle.declared_names.specs.Constants.{cannot_be_told, operand_value};
-ghost use Rattle.constant_values.specs.Outcome.{outcome};
+ghost use Rattle.st_unit_rules.specs.declared_names.Constants.{cannot_be_told, operand_value};
+ghost use Rattle.constant_folding.specs.constant_values.Outcome.{outcome};
 ghost use Rattle.constant_faults.specs.Valued.{IsWorth};
 ghost use Rattle.constant_faults.specs.Private.Operands.{given_value, call_of};
 ghost use Rattle.constant_faults.specs.Private.Rows.{Keeps, StepsAhead, LooksAhead, RowGoes, row_rest};
@@ -16,11 +16,11 @@ use crate::rows::{
     Ahead, Row, asked_nothing, began, behind, ended_by, joined, operand_asked, to_the_end,
 };
 use crate::valued::{Valued, behind_not, behind_sign};
-use constant_rules::st_scope::Scope;
-use constant_values::{Outcome, converted};
+use constant_folding::name_resolution::Scope;
+use constant_folding::{Outcome, converted};
 use plc_text::NoMemory;
-use st_check_expr::st_calls::{Callee, call_type, callee_at};
-use st_check_expr::st_expr_parts::{as_int, front_asked, is_untyped};
+use st_check_expr::check_calls::{Callee, call_type, callee_at};
+use st_check_expr::check_nodes::{as_int, front_asked, is_untyped};
 use st_operators::{is_arithmetic, number_asked};
 use st_rules::Asked;
 use st_tree::{Argument, Expr, Place, Tail};

@@ -5,10 +5,9 @@ ghost use Rattle.stack_code.specs.Machine as machine;
 ghost use Rattle.cycle_machine.specs.Room.{HoldsLocals};
 ghost use Rattle.cycle_machine.specs.Private.Machine.{config, went, Keeps, IsTall};
 
-use machine_room::{Frames, Locals, Words};
+use machine_memory::{Frames, Locals, Words};
 use mem_image::Regions;
-use stack_code::{Ending, Frame, Op};
-use valid_code::ValidCode;
+use stack_code::{Ending, Frame, Op, ValidCode};
 
 /// The state of a run. Between runs it has no regions.
 pub struct Machine {

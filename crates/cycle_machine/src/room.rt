@@ -6,14 +6,13 @@ ghost use Rattle.cycle_machine.specs.Room.{IsRoomFor};
 
 use crate::machine::Machine;
 use crate::runs::write_flags;
-use machine_room::{Frames, Locals, Words};
+use machine_memory::{Frames, Locals, Words};
 use mem_image::Regions;
 use plc_text::{Fault, FaultKind, NoMemory};
-use stack_code::{Address, Frame, Outcome, Space};
+use stack_code::{Address, Frame, Outcome, Space, ValidCode};
 use std::alloc::Global;
 use std::marker::Model;
 use std::mem::swap;
-use valid_code::ValidCode;
 
 /// The most bytes of locals of a routine: 65 times as many have offsets of 32 bits.
 const MOST_LOCALS: u32 = 0x3f0_0000;

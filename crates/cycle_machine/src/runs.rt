@@ -3,14 +3,13 @@
 ghost use Rattle.std.specs.Prelude.{◌≡◌, ◌∷◌, ◌<◌, [], Some, length, take, slice_set, slice_index_or, MatchOption, IfErr};
 ghost use Rattle.stack_code.specs.declared.machine.Ending.TheVariants.{Stuck};
 ghost use Rattle.stack_code.specs.Machine.{exec, Gives, IsStuck, with_arguments, flag as flag_word};
-ghost use Rattle.machine_room.specs.Answers.{stored};
+ghost use Rattle.machine_memory.specs.Answers.{stored};
 ghost use Rattle.cycle_machine.specs.Room.{IsRoomFor};
 ghost use Rattle.cycle_machine.specs.Private.Machine.{config, capacity, IsBegun};
 
 use crate::machine::Machine;
-use machine_room::{Locals, truth, write_argument};
-use stack_code::{Address, Ending, Frame, Outcome, Word};
-use valid_code::ValidCode;
+use machine_memory::{Locals, truth, write_argument};
+use stack_code::{Address, Ending, Frame, Outcome, ValidCode, Word};
 
 impl Machine {
     /// The state before a run of the routine on the instance, with no locals yet.

@@ -12,7 +12,7 @@ use Rattle.st_tree.specs.Initial.{initial_of}
 use Rattle.st_rules.specs.Chains.{is_among}
 use Rattle.st_rules.proofs.Booleans.{false≢true, none≢some, some-same, either}
 use Rattle.st_rules.proofs.LeadsLaws.{IsWithin}
-use Rattle.declared_names.specs.Declarations.{Declaration, an_entry, a_global, an_interface, a_class, a_function, a_program, a_configuration, name_of}
+use Rattle.st_unit_rules.specs.declared_names.Declarations.{Declaration, an_entry, a_global, an_interface, a_class, a_function, a_program, a_configuration, name_of}
 use Rattle.st_unit_rules.specs.Cycles.{Named, alone, before_dot, before_hash, named_in_bounds, named_in_value, place_from, is_global_or_function, type_place, class_place, constant_place, types_named, element_names, base_place, contained_in_body, contained, contained_at, needed_for, needed_by_type, needed_by_value, needed_by_body, needed, needed_at}
 use Rattle.declared_graph.specs.Private.Known.{constant_if}
 use Rattle.declared_graph.specs.Private.Edges.{told, out_at}

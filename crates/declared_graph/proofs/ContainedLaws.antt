@@ -5,11 +5,11 @@ use Rattle.std.proofs.lemmas.List.Elements.{filter_map-append}
 use Rattle.graph_cycles.specs.declared.graph.Edge.{Edge}
 use Rattle.st_tree.specs.declared.declaration.ClassDecl.{ClassDecl}
 use Rattle.st_tree.specs.declared.declaration.FieldGroup.{FieldGroup}
-use Rattle.declared_names.specs.Variables.{Written, is_kept_written, sections_written, sections_in}
-use Rattle.declared_names.specs.Declarations.{Declaration}
+use Rattle.st_unit_rules.specs.declared_names.Variables.{Written, is_kept_written, sections_written, sections_in}
+use Rattle.st_unit_rules.specs.declared_names.Declarations.{Declaration}
 use Rattle.st_unit_rules.specs.Cycles.{type_place, types_named, element_names, base_place, contained_in_class}
-use Rattle.declaration_list.specs.declared.written.WrittenName.{WrittenName}
-use Rattle.declaration_list.specs.Written.{written_of}
+use Rattle.st_unit_rules.specs.declared.declaration_list.written.WrittenName.{WrittenName}
+use Rattle.st_unit_rules.specs.declaration_list.Written.{written_of}
 use Rattle.declared_graph.specs.Private.Edges.{edges_to}
 use Rattle.declared_graph.specs.Private.Contained.{group_places, kept_places, name_places}
 use Rattle.declared_graph.proofs.PlaceLaws.{two_steps}

@@ -7,7 +7,7 @@ use Rattle.st_rules.specs.Chains.{leads_within}
 use Rattle.st_rules.specs.Numbered.{each_numbered}
 use Rattle.st_rules.proofs.Booleans.{false≢true, either, both, and-both, or-first, or-second, same-tests, Among, any-parts, any-among}
 use Rattle.st_rules.proofs.LeadsLaws.{IsWithin, leads_decided}
-use Rattle.declared_names.specs.Declarations.{Declaration}
+use Rattle.st_unit_rules.specs.declared_names.Declarations.{Declaration}
 use Rattle.st_unit_rules.specs.Cycles.{lies_on_cycle, contained_at, contains_itself, leads_to_cycle}
 use Rattle.graph_cycles.specs.Graph.{LiesOnCycle, LeadsToCycle}
 

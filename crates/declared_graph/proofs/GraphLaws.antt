@@ -9,12 +9,12 @@ use Rattle.plc_text.specs.declared.code.Code.TheVariants.{E06}
 use Rattle.st_rules.specs.Chains.{is_among}
 use Rattle.st_rules.specs.Faults.{earlier, least, when}
 use Rattle.st_rules.proofs.FaultLaws.{least-append}
-use Rattle.declared_names.specs.Declarations.{Declaration, declarations}
+use Rattle.st_unit_rules.specs.declared_names.Declarations.{Declaration, declarations}
 use Rattle.st_unit_rules.specs.Cycles.{lies_on_cycle, contained, contained_at, contains_itself, leads_to_cycle, needed, needed_at, needs_itself, cycle_faults}
 use Rattle.graph_cycles.specs.declared.graph.Edge.{Edge}
 use Rattle.graph_cycles.specs.Graph.{AreEdgesOf, AreWithin, LiesOnCycle, LeadsToCycle, marked}
-use Rattle.declaration_list.specs.declared.listed.Declared.{Declared}
-use Rattle.declaration_list.specs.Listed.{declared_as}
+use Rattle.st_unit_rules.specs.declared.declaration_list.listed.Declared.{Declared}
+use Rattle.st_unit_rules.specs.declaration_list.Listed.{declared_as}
 use Rattle.declared_graph.specs.Private.Contained.{contained_of}
 use Rattle.declared_graph.specs.Private.Edges.{edges_from, out_at}
 use Rattle.declared_graph.specs.Private.Needed.{is_first_of, needed_of}

@@ -13,14 +13,14 @@ use Rattle.st_rules.specs.Numbered.{each_numbered}
 use Rattle.st_rules.proofs.Booleans.{none≢some, some-same}
 use Rattle.st_rules.proofs.FaultLaws.{earlier-assoc, earlier-none, least-append}
 use Rattle.st_rules.proofs.ListLaws.{drop-at, drop-end}
-use Rattle.declared_names.specs.Variables.{Written, sections_written}
-use Rattle.declared_names.specs.Declarations.{item_line}
+use Rattle.st_unit_rules.specs.declared_names.Variables.{Written, sections_written}
+use Rattle.st_unit_rules.specs.declared_names.Declarations.{item_line}
 use Rattle.st_unit_rules.specs.Cycles.{Named, alone, before_dot, before_hash, named_in_bounds, named_in_value, inner_from, inner_place, inner_for, inner_needed, inner_cycles, lies_on_cycle}
 use Rattle.graph_cycles.specs.declared.graph.Edge.{Edge}
 use Rattle.graph_cycles.specs.Graph.{AreWithin, marked}
-use Rattle.declaration_list.specs.declared.written.WrittenName.{WrittenName}
-use Rattle.declaration_list.specs.Written.{global_of, written_of, names_in_sections}
-use Rattle.declaration_list.proofs.GlobalLaws.{written_by_names}
+use Rattle.st_unit_rules.specs.declared.declaration_list.written.WrittenName.{WrittenName}
+use Rattle.st_unit_rules.specs.declaration_list.Written.{global_of, written_of, names_in_sections}
+use Rattle.st_unit_rules.proofs.declaration_list.GlobalLaws.{written_by_names}
 use Rattle.declared_graph.specs.Private.Edges.{edges_from, out_at, told}
 use Rattle.declared_graph.specs.declared.names.Named.{Named as Lent}
 use Rattle.declared_graph.specs.Private.Names.{all_named}

@@ -5,7 +5,7 @@ use Rattle.std.proofs.lemmas.Grind.{flat_map-append}
 use Rattle.st_tree.specs.declared.declaration.Item.{Item}
 use Rattle.st_tree.specs.declared.type_spec.TypeSpec.{TypeSpec}
 use Rattle.st_tree.specs.Initial.{initial_of}
-use Rattle.declared_names.specs.Declarations.{Declaration, Global, a_global}
+use Rattle.st_unit_rules.specs.declared_names.Declarations.{Declaration, Global, a_global}
 use Rattle.st_unit_rules.specs.Cycles.{Named, types_named, element_names, named_in_bounds, named_in_value, needed_for, needed_by_type}
 use Rattle.declared_graph.specs.declared.names.Named.{Named as Lent}
 use Rattle.declared_graph.specs.Private.Names.{named_as, all_named}

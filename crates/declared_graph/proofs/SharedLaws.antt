@@ -7,10 +7,10 @@ use Rattle.st_tree.specs.declared.name.Name.{Name}
 use Rattle.st_tree.specs.declared.unit.Decl.{Decl}
 use Rattle.st_tree.specs.declared.unit.Decl.TheVariants as declaration
 use Rattle.st_rules.proofs.Booleans.{true≢false}
-use Rattle.declared_names.specs.Variables.{Written, item_written}
-use Rattle.declared_names.specs.Declarations.{Declaration, Global, an_entry, a_global, a_configuration, globals_of_item, globals_of_section, declarations_of, declarations, configuration_globals}
+use Rattle.st_unit_rules.specs.declared_names.Variables.{Written, item_written}
+use Rattle.st_unit_rules.specs.declared_names.Declarations.{Declaration, Global, an_entry, a_global, a_configuration, globals_of_item, globals_of_section, declarations_of, declarations, configuration_globals}
 use Rattle.st_unit_rules.specs.Cycles.{needed, inner_needed}
-use Rattle.declaration_list.specs.Written.{written_in, names_from, names_in_item, names_in_section, names_in_sections}
+use Rattle.st_unit_rules.specs.declaration_list.Written.{written_in, names_from, names_in_item, names_in_section, names_in_sections}
 use Rattle.declared_graph.specs.Private.Shared.{Shares, is_first}
 
 module _ {X : Type 0} (first : X → Bool) (Same : X → X → Type 0) where

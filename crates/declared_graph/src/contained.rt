@@ -2,17 +2,17 @@
 
 ghost use Rattle.std.specs.Prelude.{◌≡◌, ◌++◌, map, flat_map, IfOk, OnOk};
 ghost use Rattle.st_unit_rules.specs.Cycles as cycles;
-ghost use Rattle.declaration_list.specs.Listed.{declared_as};
+ghost use Rattle.st_unit_rules.specs.declaration_list.Listed.{declared_as};
 ghost use Rattle.declared_graph.specs.Private.Known.{declared, AreTables};
 ghost use Rattle.declared_graph.specs.Private.Edges.{edges_to, edges_from};
 ghost use Rattle.declared_graph.specs.Private.Contained.{group_places, name_places, contained_of};
 
 use crate::edges::add_edge;
 use crate::known::Known;
-use declaration_list::{Declared, WrittenName, written_members};
 use graph_cycles::Edge;
 use plc_text::NoMemory;
 use st_tree::{ClassDecl, FieldGroup, SimpleSpec, TypeBody, Used};
+use st_unit_rules::declaration_list::{Declared, WrittenName, written_members};
 use std::alloc::Global;
 
 #[tactic(auto, using(crate::proofs::PlaceLaws::told_type))]

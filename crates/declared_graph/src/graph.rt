@@ -2,7 +2,7 @@
 
 ghost use Rattle.std.specs.Prelude.{◌≡◌, ℕ, map, IfOk};
 ghost use Rattle.st_rules.specs.Faults.{least};
-ghost use Rattle.declared_names.specs.Declarations.{declarations};
+ghost use Rattle.st_unit_rules.specs.declared_names.Declarations.{declarations};
 ghost use Rattle.st_unit_rules.specs.Cycles as cycles;
 ghost use Rattle.graph_cycles.specs.Graph.{marked};
 ghost use Rattle.declared_graph.specs.Private.Known.{declared, AreTables};
@@ -13,11 +13,11 @@ use crate::contained::contained_edges;
 use crate::hubs::{cycles_by_hubs, hub_edges};
 use crate::known::{Known, Places, know, place_of};
 use crate::needed::{add_all_needed, first_flags};
-use declaration_list::list_declarations;
 use graph_cycles::{Edge, cycle_nodes, nodes_to_cycles};
 use plc_text::{Code, NoMemory, Text};
 use st_rules::{earlier, when};
 use st_tree::{Decl, SeenUnit, Unit};
+use st_unit_rules::declaration_list::list_declarations;
 use std::alloc::Global;
 use std::marker::Model;
 
@@ -97,7 +97,7 @@ impl Model for DeclaredGraph {
 
     ghost coded = { unit_type.the_row.coded };
 
-    ghost use Rattle.declared_names.specs.Declarations.{declarations};
+    ghost use Rattle.st_unit_rules.specs.declared_names.Declarations.{declarations};
     ghost use Rattle.declared_graph.specs.Private.Marks.{AreMarks};
 
     ghost view = { λ t. t.of.value };

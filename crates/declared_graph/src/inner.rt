@@ -3,9 +3,9 @@
 ghost use Rattle.std.specs.Prelude.{◌≡◌, ◌++◌, ◌&&◌, ℕ, List, length, map, flat_map, IfOk, OnOk};
 ghost use Rattle.st_tree.specs.declared.declaration.Section.{Section as ASection};
 ghost use Rattle.st_rules.specs.Faults.{least};
-ghost use Rattle.declared_names.specs.Variables.{sections_written};
+ghost use Rattle.st_unit_rules.specs.declared_names.Variables.{sections_written};
 ghost use Rattle.st_unit_rules.specs.Cycles as cycles;
-ghost use Rattle.declaration_list.specs.Written.{global_of, written_of, names_in_sections};
+ghost use Rattle.st_unit_rules.specs.declaration_list.Written.{global_of, written_of, names_in_sections};
 ghost use Rattle.declared_graph.specs.Private.Edges.{edges_to, edges_from};
 ghost use Rattle.declared_graph.specs.Private.Names.{named_as};
 ghost use Rattle.declared_graph.specs.Private.Inner.{inner_found, inner_constant, found_for, found_for_lent, IsInnerTable, IsPut, is_first_name, needed_by_item, needed_of, marked_fault as own_marked_fault, marked_faults, OnCycles};
@@ -15,11 +15,11 @@ use crate::graph::is_marked;
 use crate::hubs::{cycles_by_hubs, hub_edges, hub_node};
 use crate::names::Named;
 use crate::texts::item_names;
-use declaration_list::{WrittenName, item_line};
 use graph_cycles::Edge;
 use plc_text::{Code, NoMemory, Text};
 use st_rules::{earlier, when};
 use st_tree::Item;
+use st_unit_rules::declaration_list::{WrittenName, item_line};
 use std::alloc::Global;
 use std::collections::HashMap;
 

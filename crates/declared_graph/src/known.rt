@@ -1,13 +1,13 @@
 //! Where the first declaration of each name stands.
 
 ghost use Rattle.std.specs.Prelude.{◌≡◌, map, IfOk, slice_get};
-ghost use Rattle.declared_names.specs.Declarations.{is_class};
+ghost use Rattle.st_unit_rules.specs.declared_names.Declarations.{is_class};
 ghost use Rattle.st_unit_rules.specs.Cycles as cycles;
-ghost use Rattle.declaration_list.specs.Listed.{declared_as};
+ghost use Rattle.st_unit_rules.specs.declaration_list.Listed.{declared_as};
 ghost use Rattle.declared_graph.specs.Private.Known.{found_in, IsTableOf, passes, declared, AreTables, is_constant, constant_if};
 
-use declaration_list::Declared;
 use plc_text::{NoMemory, Text};
+use st_unit_rules::declaration_list::Declared;
 use std::alloc::Global;
 use std::collections::HashMap;
 

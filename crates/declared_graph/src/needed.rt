@@ -2,7 +2,7 @@
 
 ghost use Rattle.std.specs.Prelude.{◌≡◌, ◌++◌, ◌&&◌, length, map, flat_map, IfOk, OnOk};
 ghost use Rattle.st_unit_rules.specs.Cycles as cycles;
-ghost use Rattle.declaration_list.specs.Written.{global_of};
+ghost use Rattle.st_unit_rules.specs.declaration_list.Written.{global_of};
 ghost use Rattle.declared_graph.specs.Private.Known.{declared, AreTables};
 ghost use Rattle.declared_graph.specs.Private.Edges.{edges_to, edges_from};
 ghost use Rattle.declared_graph.specs.Private.Names.{named_as};
@@ -14,10 +14,10 @@ use crate::hubs::hub_node;
 use crate::known::Known;
 use crate::names::Named;
 use crate::texts::{bound_names, item_names};
-use declaration_list::{Declared, WrittenName};
 use graph_cycles::Edge;
 use plc_text::NoMemory;
 use st_tree::{Item, TypeBody, TypeSpec};
+use st_unit_rules::declaration_list::{Declared, WrittenName};
 use std::alloc::Global;
 
 /// Adds edges to what a name may mean.

@@ -10,10 +10,10 @@ use Rattle.program_tables.proofs.RoutineLaws.{below}
 use Rattle.st_values.specs.Program.{Program}
 use Rattle.st_values.specs.Shape.{shape_of, shape_at, region_shape}
 use Rattle.st_values.proofs.ValueLaws.{then_some}
-use Rattle.st_frame.specs.Footprint.{Has, Contains}
-use Rattle.st_frame.proofs.Footprints.{has_left, has_right, has_either}
+use Rattle.st_meaning.specs.st_frame.Footprint.{Has, Contains}
+use Rattle.st_meaning.proofs.st_frame.Footprints.{has_left, has_right, has_either}
 use Rattle.region_instances.specs.Instances.{HoldsInstance, RegionsUnfold}
-use Rattle.reached_routines.proofs.FamilyLaws.{class_within}
+use Rattle.footprints.proofs.reached_routines.FamilyLaws.{class_within}
 use Rattle.footprints.specs.Private.Holders.{AreHolders, AreAllHolders, holders_at, or_none, Held, IsNextHolder}
 
 module _ (p : Program) where

@@ -8,8 +8,8 @@ use Rattle.st_values.specs.Program.{Variable, Region, Program, class_variables}
 use Rattle.st_values.specs.Value.{Path}
 use Rattle.st_meaning.specs.Call.{class_of_kind}
 use Rattle.st_meaning.specs.ProcessImage.{Located, located, located_variables, located_in, located_from, located_of, is_in}
-use Rattle.st_frame.specs.Footprint.{Has}
-use Rattle.st_frame.proofs.Footprints.{has_left, has_right, has_either}
+use Rattle.st_meaning.specs.st_frame.Footprint.{Has}
+use Rattle.st_meaning.proofs.st_frame.Footprints.{has_left, has_right, has_either}
 use Rattle.footprints.specs.Private.Inputs.{is_input, any_input, has_input, marked, are_inputs, HoldsInput}
 
 -- an input among these

@@ -5,7 +5,7 @@ use Rattle.std.specs.Ordering.{nat_cmp, match_ordering}
 use Rattle.std.specs.declared.cmp.Ordering.{Ordering}
 use Rattle.std.specs.declared.cmp.Ordering.TheVariants.{Less, Equal, Greater}
 use Rattle.std.proofs.lemmas.Cmp.{ranked}
-use Rattle.st_frame.specs.Footprint.{Has}
+use Rattle.st_meaning.specs.st_frame.Footprint.{Has}
 use Rattle.footprints.specs.Private.Puts.{Puts, Via}
 use Rattle.footprints.proofs.PutLaws.{puts_as}
 

@@ -2,9 +2,9 @@
 use Rattle.std.proofs.Common.{◌≡◌, ℕ, true, List, length, refl, sym, subst, ⊎_elim}
 use Rattle.st_values.specs.Program.{Program}
 use Rattle.st_values.specs.View.{program_of}
-use Rattle.st_frame.specs.Use.{the_region, the_instances, Use, names, follows, calls, changes}
-use Rattle.st_frame.specs.Footprint.{Has, Touches, Alters, Footprint, own_program, touched, Writes, latched, altered, IsFootprint}
-use Rattle.st_frame.specs.Footprint as footprint
+use Rattle.st_meaning.specs.st_frame.Use.{the_region, the_instances, Use, names, follows, calls, changes}
+use Rattle.st_meaning.specs.st_frame.Footprint.{Has, Touches, Alters, Footprint, own_program, touched, Writes, latched, altered, IsFootprint}
+use Rattle.st_meaning.specs.st_frame.Footprint as footprint
 use Rattle.region_instances.specs.Instances.{RegionsUnfold}
 use Rattle.footprints.specs.Footprints.{IsWritten}
 use Rattle.footprints.specs.declared.tables.Tables.{Tables}

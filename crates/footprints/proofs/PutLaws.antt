@@ -1,6 +1,6 @@
 -- What is put one after the other.
 use Rattle.std.proofs.Common.{◌≡◌, ℕ, List, [], ◌∷◌, length, refl, subst, ◌⊎◌, inl, inr, ⊎_elim, arith}
-use Rattle.st_frame.specs.Footprint.{Has}
+use Rattle.st_meaning.specs.st_frame.Footprint.{Has}
 use Rattle.footprints.specs.Private.Puts.{Puts, Via, Takes}
 
 pub no_items : {A : Type 0} (xs : List A) → length xs ≡ 0 → xs ≡ []

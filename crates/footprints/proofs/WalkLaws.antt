@@ -9,15 +9,15 @@ use Rattle.st_rules.proofs.Booleans.{none≢some, some-same, true≢false, false
 use Rattle.st_values.specs.Program.{Program}
 use Rattle.st_values.specs.View.{program_of}
 use Rattle.st_meaning.specs.Enter.{programs_of}
-use Rattle.st_frame.specs.Use.{Owner, Use, routine_uses}
-use Rattle.st_frame.specs.Footprint.{Has}
+use Rattle.st_meaning.specs.st_frame.Use.{Owner, Use, routine_uses}
+use Rattle.st_meaning.specs.st_frame.Footprint.{Has}
 use Rattle.program_tables.specs.Routine.{routine_of}
 use Rattle.program_tables.specs.declared.routine.RoutineId.{RoutineId}
-use Rattle.reached_routines.specs.Conformers.{classes_of, AreConformers}
-use Rattle.reached_routines.specs.declared.conformers.Conformers.{Conformers}
-use Rattle.reached_routines.specs.Families.{Family, family_of, kind_of, same_family}
-use Rattle.reached_routines.specs.Reached.{IsReached}
-use Rattle.reached_routines.proofs.FamilyLaws.{same_is, conforms_as_family, conforms_to_none}
+use Rattle.footprints.specs.reached_routines.Conformers.{classes_of, AreConformers}
+use Rattle.footprints.specs.declared.reached_routines.conformers.Conformers.{Conformers}
+use Rattle.footprints.specs.reached_routines.Families.{Family, family_of, kind_of, same_family}
+use Rattle.footprints.specs.reached_routines.Reached.{IsReached}
+use Rattle.footprints.proofs.reached_routines.FamilyLaws.{same_is, conforms_as_family, conforms_to_none}
 use Rattle.footprints.specs.declared.walk.Part.{Part}
 use Rattle.footprints.specs.Private.Holders.{holders_at, Held}
 use Rattle.footprints.specs.Private.Puts.{Puts, Via}

@@ -1,7 +1,7 @@
 -- The regions that a task writes, as a list.
 use Rattle.std.specs.Prelude.{ℕ, List}
 use Rattle.st_values.specs.Program.{Program}
-use Rattle.st_frame.specs.Footprint.{Has, Writes}
+use Rattle.st_meaning.specs.st_frame.Footprint.{Has, Writes}
 
 -- the list has what the task writes
 pub record IsWritten (p : Program) (task : ℕ) (ws : List ℕ) : Type 0 where

@@ -1,2 +1,3 @@
 pub mod Footprints
 pub mod Private
+pub mod reached_routines

@@ -4,7 +4,7 @@ ghost use Rattle.std.specs.Prelude.{◌≡◌, true, IfOk, OnOk};
 ghost use Rattle.std.specs.Ordering.{nat_cmp};
 ghost use Rattle.std.specs.List.Sorted.{IsStrictlySortedBy};
 ghost use Rattle.st_values.specs.View.{program_of};
-ghost use Rattle.st_frame.specs.Footprint.{IsFootprint};
+ghost use Rattle.st_meaning.specs.st_frame.Footprint.{IsFootprint};
 ghost use Rattle.region_instances.specs.Instances.{RegionsUnfold};
 ghost use Rattle.footprints.specs.Footprints.{IsWritten};
 ghost use Rattle.footprints.specs.Private.Puts.{Puts, Via};

@@ -1,15 +1,15 @@
 //! Which regions hold variables with addresses of inputs.
 
 ghost use Rattle.std.specs.Prelude.{◌≡◌, map, option_map, IfOk};
-ghost use Rattle.st_initial.specs.Members.{Holds};
-ghost use Rattle.st_initial.specs.Variables.{variables_of};
+ghost use Rattle.program_tables.specs.st_initial.Members.{Holds};
+ghost use Rattle.program_tables.specs.st_initial.Variables.{variables_of};
 ghost use Rattle.st_values.specs.Program as plain;
 ghost use Rattle.st_values.specs.View.{program_of, region_of};
 ghost use Rattle.footprints.specs.Private.Inputs as words;
 
+use crate::reached_routines::call_steps::class_of_kind;
 use plc_text::{Items, NoMemory, Text};
-use reached_routines::call_steps::class_of_kind;
-use st_initial::{Members, Variable, members_of};
+use program_tables::{Members, Variable, members_of};
 use st_tree::{Area, Program, RegionDecl, area_of};
 use std::alloc::Global;
 

@@ -5,7 +5,10 @@ mod footprints;
 mod holders;
 mod inputs;
 mod marks;
+pub mod reached_routines;
 mod tables;
 mod walk;
 
+pub use body_uses;
+pub use body_uses::call_steps;
 pub use footprints::{Footprints, footprint, writes};

@@ -3,7 +3,7 @@
 ghost use Rattle.std.specs.Prelude.{◌≡◌, IfOk, OnOk};
 ghost use Rattle.std.specs.Ordering.{nat_cmp};
 ghost use Rattle.std.specs.List.Sorted.{IsStrictlySortedBy};
-ghost use Rattle.st_frame.specs.Footprint.{Has};
+ghost use Rattle.st_meaning.specs.st_frame.Footprint.{Has};
 ghost use Rattle.footprints.specs.Private.Puts.{Puts, Via};
 ghost use Rattle.footprints.specs.Private.Holders.{holders_at};
 

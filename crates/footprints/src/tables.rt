@@ -5,12 +5,12 @@ ghost use Rattle.footprints.specs.Private.Tables.{AreTables};
 
 use crate::holders::holders;
 use crate::inputs::inputs;
+use crate::reached_routines::Conformers;
 use plc_text::{Items, NoMemory, narrowed};
 use program_tables::ProgramTables;
-use reached_routines::Conformers;
 use region_instances::RegionInstances;
+use routine_tables::signature_tables::{SignatureTables, signature_tables};
 use routine_tables::{RoutineTables, routine_tables};
-use signature_tables::{SignatureTables, signature_tables};
 use st_tree::Program;
 use std::alloc::Global;
 

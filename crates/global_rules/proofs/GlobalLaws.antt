@@ -5,9 +5,9 @@ use Rattle.plc_text.specs.declared.code.Code.{Code}
 use Rattle.st_tree.specs.declared.unit.Decl.{Decl}
 use Rattle.st_rules.specs.Faults.{Faults, least, earlier}
 use Rattle.st_rules.proofs.FaultLaws.{least-append, earlier-none}
-use Rattle.declared_names.specs.Declarations.{Region, region_of_global}
-use Rattle.declaration_list.specs.declared.written.WrittenName.{WrittenName}
-use Rattle.declaration_list.specs.Written.{written_of, global_of}
+use Rattle.st_unit_rules.specs.declared_names.Declarations.{Region, region_of_global}
+use Rattle.st_unit_rules.specs.declared.declaration_list.written.WrittenName.{WrittenName}
+use Rattle.st_unit_rules.specs.declaration_list.Written.{written_of, global_of}
 use Rattle.st_unit_rules.specs.DeclarationRules.{unit, item_too_deep, regions_faults, global_faults}
 use Rattle.st_unit_rules.specs.VariableRules.{of_globals, item_faults}
 use Rattle.section_rules.specs.Headings.{heading_faults}

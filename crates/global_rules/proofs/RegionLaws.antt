@@ -10,15 +10,15 @@ use Rattle.st_tree.specs.declared.unit.Decl.{Decl}
 use Rattle.st_tree.specs.Initial.{initial_of}
 use Rattle.st_rules.specs.Expressions.{told}
 use Rattle.st_rules.specs.Scope.{Scope}
-use Rattle.declared_names.specs.Declarations.{Region, of_global, region_of_global}
-use Rattle.declared_names.specs.Variables.{Written}
-use Rattle.declared_names.specs.WrittenTypes.{type_written}
+use Rattle.st_unit_rules.specs.declared_names.Declarations.{Region, of_global, region_of_global}
+use Rattle.st_unit_rules.specs.declared_names.Variables.{Written}
+use Rattle.st_unit_rules.specs.declared_names.WrittenTypes.{type_written}
 use Rattle.st_unit_rules.specs.Checked.{Each, TypedRegion, GlobalRegion, is_first_name, marks_of}
 use Rattle.st_unit_rules.specs.DeclarationRules.{unit}
 use Rattle.st_unit_rules.specs.Initials.{typed_initial}
-use Rattle.variable_rules.proofs.ItemLaws.{given_typed}
-use Rattle.region_rules.specs.declared.taken.TakenRegions.{TakenRegions}
-use Rattle.region_rules.specs.Taken.{Holds}
+use Rattle.check_declared_variables.proofs.variable_rules.ItemLaws.{given_typed}
+use Rattle.check_regions.specs.declared.region_rules.taken.TakenRegions.{TakenRegions}
+use Rattle.check_regions.specs.region_rules.Taken.{Holds}
 use Rattle.global_rules.specs.declared.globals.CheckedRegions.{CheckedRegions}
 use Rattle.global_rules.specs.Globals.{HasRegions, made}
 use Rattle.global_rules.specs.Private.Regions.{IsRegion}

@@ -9,9 +9,9 @@ use Rattle.st_tree.specs.declared.name.Name.{Name}
 use Rattle.st_tree.specs.declared.unit.Decl.{Decl}
 use Rattle.st_rules.specs.Faults.{least}
 use Rattle.st_rules.proofs.ListLaws.{drop-at, drop-end, take-end}
-use Rattle.declared_names.specs.Declarations.{Global, Region, region_of_global}
-use Rattle.declared_names.specs.Variables.{Written, item_written}
-use Rattle.declaration_list.specs.Written.{names_from, names_in_item, names_in_section, names_in_sections, written_in}
+use Rattle.st_unit_rules.specs.declared_names.Declarations.{Global, Region, region_of_global}
+use Rattle.st_unit_rules.specs.declared_names.Variables.{Written, item_written}
+use Rattle.st_unit_rules.specs.declaration_list.Written.{names_from, names_in_item, names_in_section, names_in_sections, written_in}
 use Rattle.st_unit_rules.specs.DeclarationRules.{global_faults}
 use Rattle.global_rules.specs.declared.globals.CheckedRegions.{CheckedRegions}
 use Rattle.global_rules.specs.Globals.{HasRegions}

@@ -10,18 +10,18 @@ use Rattle.st_rules.specs.Classes.{classes_in}
 use Rattle.st_rules.specs.Faults.{least, earlier}
 use Rattle.st_rules.specs.Scope.{Scope}
 use Rattle.st_rules.proofs.FaultLaws.{least-append}
-use Rattle.declared_names.specs.Declarations.{declarations, item_line}
-use Rattle.declared_names.specs.UnitNames.{unit_names}
-use Rattle.declared_names.specs.WrittenTypes.{type_written}
+use Rattle.st_unit_rules.specs.declared_names.Declarations.{declarations, item_line}
+use Rattle.st_unit_rules.specs.declared_names.UnitNames.{unit_names}
+use Rattle.st_unit_rules.specs.declared_names.WrittenTypes.{type_written}
 use Rattle.st_unit_rules.specs.DeclarationRules.{unit, item_too_deep}
 use Rattle.st_unit_rules.specs.Limits.{most_steps, variable_too_deep}
 use Rattle.st_unit_rules.specs.VariableRules.{of_globals, item_faults}
-use Rattle.variable_rules.specs.CheckedType.{CheckedType}
-use Rattle.variable_rules.specs.Types.{ChecksType}
-use Rattle.type_sizes.specs.declared.sizes.TypeSizes.{TypeSizes}
-use Rattle.type_sizes.specs.Sizes.{Measures}
-use Rattle.variable_rules.specs.declared.items.CheckedItem.{CheckedItem}
-use Rattle.variable_rules.specs.Items.{ChecksItem}
+use Rattle.check_declared_variables.specs.variable_rules.CheckedType.{CheckedType}
+use Rattle.check_declared_variables.specs.variable_rules.Types.{ChecksType}
+use Rattle.check_limits.specs.declared.type_sizes.sizes.TypeSizes.{TypeSizes}
+use Rattle.check_limits.specs.type_sizes.Sizes.{Measures}
+use Rattle.check_declared_variables.specs.declared.variable_rules.items.CheckedItem.{CheckedItem}
+use Rattle.check_declared_variables.specs.variable_rules.Items.{ChecksItem}
 use Rattle.global_rules.specs.declared.shared.SharedItem.{SharedItem}
 use Rattle.global_rules.specs.Shared.{ChecksShared}
 use Rattle.global_rules.specs.Private.Shared.{IsShared}

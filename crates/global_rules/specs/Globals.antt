@@ -2,8 +2,8 @@
 use Rattle.std.specs.Prelude.{ℕ, List, [], ◌∷◌, Option, Some, None}
 use Rattle.st_tree.specs.declared.program.RegionDecl.{RegionDecl}
 use Rattle.st_tree.specs.declared.unit.Decl.{Decl}
-use Rattle.declared_names.specs.Declarations.{Region}
-use Rattle.region_rules.specs.Taken.{Holds}
+use Rattle.st_unit_rules.specs.declared_names.Declarations.{Region}
+use Rattle.check_regions.specs.region_rules.Taken.{Holds}
 use Rattle.st_unit_rules.specs.Checked.{Each, TypedRegion}
 use Rattle.global_rules.specs.declared.globals.CheckedRegions.{CheckedRegions}
 

@@ -2,4 +2,4 @@ pub mod Shared
 pub mod Globals
 pub mod Sections
 pub mod Private
-pub use Rattle.unit_tables.specs.Scopes
+pub use Rattle.symbol_table.specs.unit_tables.Scopes

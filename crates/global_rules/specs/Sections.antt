@@ -3,7 +3,7 @@ use Rattle.std.specs.Prelude.{◌≡◌, ℕ, List, [], ◌∷◌, ◌++◌, fla
 use Rattle.plc_text.specs.declared.code.Code.{Code}
 use Rattle.st_tree.specs.declared.unit.Decl.{Decl}
 use Rattle.st_rules.specs.Faults.{least}
-use Rattle.declared_names.specs.Declarations.{Global, Region, region_of_global}
+use Rattle.st_unit_rules.specs.declared_names.Declarations.{Global, Region, region_of_global}
 use Rattle.st_unit_rules.specs.DeclarationRules.{global_faults}
 use Rattle.global_rules.specs.declared.globals.CheckedRegions.{CheckedRegions}
 use Rattle.global_rules.specs.Globals.{HasRegions}

@@ -4,7 +4,7 @@ use Rattle.st_tree.specs.declared.declaration.Item.{Item}
 use Rattle.st_tree.specs.declared.declaration.Section.{Section}
 use Rattle.st_tree.specs.declared.unit.Decl.{Decl}
 use Rattle.st_rules.specs.Faults.{least}
-use Rattle.declared_names.specs.WrittenTypes.{type_written}
+use Rattle.st_unit_rules.specs.declared_names.WrittenTypes.{type_written}
 use Rattle.st_unit_rules.specs.DeclarationRules.{unit, item_too_deep}
 use Rattle.st_unit_rules.specs.VariableRules.{of_globals, item_faults}
 use Rattle.global_rules.specs.declared.shared.SharedItem.{SharedItem}

@@ -2,8 +2,8 @@
 
 ghost use Rattle.std.specs.Prelude.{◌≡◌, ◌++◌, List, [], ℕ, IfOk, OnOk};
 ghost use Rattle.st_tree.specs.declared.unit.Decl.{Decl};
-ghost use Rattle.declared_names.specs.Declarations.{Region, region_of_global};
-ghost use Rattle.declaration_list.specs.Written.{global_of, written_of};
+ghost use Rattle.st_unit_rules.specs.declared_names.Declarations.{Region, region_of_global};
+ghost use Rattle.st_unit_rules.specs.declaration_list.Written.{global_of, written_of};
 ghost use Rattle.st_rules.specs.Faults.{least};
 ghost use Rattle.st_unit_rules.specs.DeclarationRules as rules;
 ghost use Rattle.global_rules.specs.Globals.{HasRegions, made};
@@ -12,15 +12,15 @@ ghost use Rattle.global_rules.specs.Private.Globals.{IsOwn, region_when};
 
 use crate::regions::region_of;
 use crate::shared::SharedItem;
-use declaration_list::WrittenName;
+use check_regions::TakenRegions;
+use name_resolution::Scope;
 use plc_text::{Code, Items, NoMemory};
-use region_rules::TakenRegions;
 use section_rules::{Home, heading_fault};
 use st_rules::earlier;
-use st_scope::Scope;
 use st_tree::RegionDecl;
+use st_unit_rules::declaration_list::WrittenName;
 use std::alloc::Global;
-use unit_tables::UnitTables;
+use symbol_table::unit_tables::UnitTables;
 
 /// The regions that were checked: what they take together, and each as it is in the checked program.
 #[derive(Drop)]

@@ -4,17 +4,17 @@ ghost use Rattle.std.specs.Prelude.{◌≡◌, ℕ, List, IfOk};
 ghost use Rattle.st_tree.specs.declared.unit.Decl.{Decl};
 ghost use Rattle.st_rules.specs.Expressions as expressions;
 ghost use Rattle.st_unit_rules.specs.Checked as checked;
-ghost use Rattle.declaration_list.specs.Written.{written_of};
+ghost use Rattle.st_unit_rules.specs.declaration_list.Written.{written_of};
 ghost use Rattle.global_rules.specs.Private.Regions.{IsRegion};
 
-use declaration_list::WrittenName;
+use check_declared_variables::{CheckedGiven, check_given};
+use name_resolution::Scope;
 use plc_text::{NoMemory, Text};
 use st_rules::copied_text;
-use st_scope::Scope;
 use st_tree::{Marks, Name, RegionDecl};
 use st_types::{Elem, StType};
+use st_unit_rules::declaration_list::WrittenName;
 use std::alloc::Global;
-use variable_rules::{CheckedGiven, check_given};
 
 /// The type as it is noted.
 #[tactic(auto, unfolding(st_rules::specs::Expressions::told))]

@@ -1,7 +1,7 @@
 //! The globals of sections, in the order of the text.
 
 ghost use Rattle.std.specs.Prelude.{◌≡◌, ◌∷◌, [], flat_map, false, OnOk};
-ghost use Rattle.declaration_list.specs.Written as written;
+ghost use Rattle.st_unit_rules.specs.declaration_list.Written as written;
 ghost use Rattle.st_unit_rules.specs.DeclarationRules as rules;
 ghost use Rattle.global_rules.specs.Shared.{ChecksShared};
 ghost use Rattle.global_rules.specs.Sections.{Adds};
@@ -9,12 +9,12 @@ ghost use Rattle.global_rules.specs.Private.Sections.{global_with};
 
 use crate::globals::{CheckedRegions, check_global};
 use crate::shared::{SharedItem, check_shared};
-use declaration_list::WrittenName;
+use name_resolution::Scope;
 use plc_text::{Code, NoMemory};
-use st_scope::Scope;
 use st_tree::{Item, Name, Section};
+use st_unit_rules::declaration_list::WrittenName;
 use std::alloc::Global;
-use unit_tables::UnitTables;
+use symbol_table::unit_tables::UnitTables;
 
 /// The faults of globals so far.
 type Faults = Vec<Option<(Code, u32)>>;

@@ -5,18 +5,17 @@ ghost use Rattle.st_unit_rules.specs.DeclarationRules as rules;
 ghost use Rattle.global_rules.specs.Shared.{ChecksShared};
 ghost use Rattle.global_rules.specs.Private.Shared.{IsShared};
 
-use declaration_list::item_line;
-use limit_rules::{Within, too_deep};
+use check_declared_variables::{CheckedItem, CheckedType, check_item, check_type};
+use check_limits::{Within, too_deep};
+use name_resolution::Scope;
 use plc_text::{Code, NoMemory};
 use section_rules::Home;
 use st_rules::earlier;
-use st_scope::Scope;
 use st_tree::{Item, Section};
 use st_types::StType;
+use st_unit_rules::declaration_list::item_line;
 use std::alloc::Global;
-use unit_tables::UnitTables;
-use variable_rules::type_rules::{CheckedType, check_type};
-use variable_rules::{CheckedItem, check_item};
+use symbol_table::unit_tables::UnitTables;
 
 /// What is found out about an item of globals.
 #[derive(Drop)]

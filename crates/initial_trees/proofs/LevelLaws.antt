@@ -11,7 +11,7 @@ use Rattle.st_values.specs.Initial.{number_given, list_given, fields_given, elem
 use Rattle.st_values.specs.Program.{Variable, TypeBody, an_alias, an_enumeration, a_structure, TypeEntry, Class, Program, class_at, class_variables}
 use Rattle.st_values.specs.Shape.{Shape, Enumeration, Reference, Interface, Array, Structure, Instance, Fields, field_then, extent, values_of, fields_of, fields_by, simple_shape, shape_by, shape_within, shape_of}
 use Rattle.st_values.specs.Value.{Value, number, reference, array, structure, instance, Values, value_then, member_then, ◌>>=◌}
-use Rattle.st_initial.specs.Variables.{or_none}
+use Rattle.program_tables.specs.st_initial.Variables.{or_none}
 use Rattle.initial_trees.specs.Private.Kinds.{is_enumeration, enumerates, is_enumeration_at, of_structure, structure_name}
 use Rattle.initial_trees.specs.Private.Trees.{given_to, value_within, members_within, elements_within, array_within, structure_within, instance_within}
 

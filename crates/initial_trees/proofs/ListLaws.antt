@@ -7,8 +7,8 @@ use Rattle.st_tree.specs.Initial.{Initial, FieldInits}
 use Rattle.st_rules.proofs.ListLaws.{drop-at, drop-end}
 use Rattle.st_values.specs.Program.{Program}
 use Rattle.st_values.specs.Value.{Value, Values, no_values, value_then, Members, no_members, member_then, ◌>>=◌}
-use Rattle.st_initial.specs.declared.variables.Variable as held
-use Rattle.st_initial.specs.Variables.{variable_of, variables_of}
+use Rattle.program_tables.specs.declared.st_initial.variables.Variable as held
+use Rattle.program_tables.specs.st_initial.Variables.{variable_of, variables_of}
 use Rattle.value_trees.specs.declared.value.Value.{Value as CodeValue}
 use Rattle.value_trees.specs.declared.value.Member.{Member as CodeMember}
 use Rattle.value_trees.specs.Value.{value_of, values_of, member_of, members_of, member-is}

@@ -10,10 +10,10 @@ use Rattle.st_values.specs.Initial.{number_given, list_given, fields_given, init
 use Rattle.st_values.specs.Program.{Class, Program, class_at, class_variables}
 use Rattle.st_values.specs.Shape.{Shape, shape_within}
 use Rattle.st_values.specs.Value.{Value, number, reference, array, structure, instance, Values, no_values, value_then, Members, ◌>>=◌}
-use Rattle.st_initial.specs.declared.members.Members as tables
-use Rattle.st_initial.specs.declared.variables.Variable as held
-use Rattle.st_initial.specs.Members.{items_at, list_at}
-use Rattle.st_initial.specs.Variables.{variables_of, fields_at}
+use Rattle.program_tables.specs.declared.st_initial.members.Members as tables
+use Rattle.program_tables.specs.declared.st_initial.variables.Variable as held
+use Rattle.program_tables.specs.st_initial.Members.{items_at, list_at}
+use Rattle.program_tables.specs.st_initial.Variables.{variables_of, fields_at}
 use Rattle.value_trees.specs.declared.value.Value.{Value as CodeValue}
 use Rattle.value_trees.specs.declared.value.Value.TheVariants as code
 use Rattle.value_trees.specs.declared.value.Member.{Member as CodeMember}

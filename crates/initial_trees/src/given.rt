@@ -8,7 +8,7 @@ ghost use Rattle.initial_trees.specs.Private.Given.{Finds, IsIndex, found_in, gi
 ghost use Rattle.initial_trees.specs.Private.Trees.{given_by};
 
 use plc_text::{NoMemory, Text};
-use st_initial::given_for;
+use program_tables::given_for;
 use st_tree::{FieldInit, Init, Note};
 use std::alloc::Global;
 use std::collections::HashMap;

@@ -3,13 +3,12 @@
 ghost use Rattle.std.specs.Prelude.{◌≡◌, IfOk};
 ghost use Rattle.st_values.specs.Initial as words;
 ghost use Rattle.st_values.specs.View.{program_of, region_of};
-ghost use Rattle.st_initial.specs.Members as tables;
+ghost use Rattle.program_tables.specs.st_initial.Members as tables;
 ghost use Rattle.value_trees.specs.Value.{value_of, members_of};
 
 use crate::trees::{push_member, value_of_region};
-use plc_series::Series;
-use plc_text::NoMemory;
-use st_initial::members_of;
+use plc_text::{NoMemory, Series};
+use program_tables::members_of;
 use st_tree::Program;
 use std::alloc::Global;
 use value_trees::Member;

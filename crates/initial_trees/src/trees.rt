@@ -6,9 +6,9 @@ ghost use Rattle.st_values.specs.Initial as words;
 ghost use Rattle.st_values.specs.Program.{class_at};
 ghost use Rattle.st_values.specs.Shape.{extent};
 ghost use Rattle.st_values.specs.View.{program_of, region_of};
-ghost use Rattle.st_initial.specs.Given.{inits_of};
-ghost use Rattle.st_initial.specs.Members as tables;
-ghost use Rattle.st_initial.specs.Variables.{variable_of, variables_of};
+ghost use Rattle.program_tables.specs.st_initial.Given.{inits_of};
+ghost use Rattle.program_tables.specs.st_initial.Members as tables;
+ghost use Rattle.program_tables.specs.st_initial.Variables.{variable_of, variables_of};
 ghost use Rattle.st_values.specs.Value.{array, member_then, no_members, no_values, number, reference, value_then};
 ghost use Rattle.value_trees.specs.Value.{value_of, values_of, members_of};
 ghost use Rattle.initial_trees.specs.Private.Given.{IsIndex};
@@ -17,9 +17,8 @@ ghost use Rattle.initial_trees.specs.Private.Trees.{given_by, members_behind, va
 
 use crate::given::{Places, given_named, index_of};
 use crate::kinds::{class_name, has_interface, is_enumeration, structure_name};
-use plc_series::Series;
-use plc_text::{Items, NoMemory, Text};
-use st_initial::{Members, Variable, elements_given, fields_given, number_given};
+use plc_text::{Items, NoMemory, Series, Text};
+use program_tables::{Members, Variable, elements_given, fields_given, number_given};
 use st_tree::{FieldInit, Init, Note, Program, RegionDecl};
 use st_types::StType;
 use std::alloc::Global;

@@ -5,13 +5,11 @@ ghost use Rattle.std.specs.Prelude.{◌≡◌};
 ghost use Rattle.cycle_machine.specs.Room.{IsRoomFor};
 
 use crate::code::{code, numbers, small};
-use code_listing::listing;
 use cycle_machine::{Room, run_body, run_hook_body};
 use mem_image::{Image, Regions};
 use plc_text::{NoMemory, Text, split_field};
-use stack_code::{Address, Outcome, Space};
+use stack_code::{Address, Outcome, Space, ValidCode, listing, validate};
 use std::alloc::Global;
-use valid_code::{ValidCode, validate};
 
 /// Adds the image of a region: 64 bytes, of which the first is the number.
 fn add_image(alloc: Global, regions: &mut Regions, region: u32, first: u8) -> Result<(), NoMemory> {

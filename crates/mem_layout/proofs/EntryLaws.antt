@@ -7,11 +7,11 @@ use Rattle.st_values.specs.Value.{◌>>=◌}
 use Rattle.st_values.specs.Shape as shape
 use Rattle.st_values.specs.Shape.{Shape, Elementary, Enumeration, Reference, Array, Structure, Instance, Fields, no_fields, field_then, fields_by, shape_within}
 use Rattle.st_values.proofs.ValueLaws.{then_some}
-use Rattle.st_initial.specs.declared.variables.Variable as held
-use Rattle.st_initial.specs.Variables.{variable_of, variables_of}
-use Rattle.store_bytes.specs.Place.{gap, alignment, greatest, size, ending}
-use Rattle.store_bytes.specs.PlaceLaws.{joined}
-use Rattle.store_bytes.proofs.Moves.{ending_above}
+use Rattle.program_tables.specs.declared.st_initial.variables.Variable as held
+use Rattle.program_tables.specs.st_initial.Variables.{variable_of, variables_of}
+use Rattle.mem_layout.specs.store_bytes.Place.{gap, alignment, greatest, size, ending}
+use Rattle.mem_layout.specs.store_bytes.PlaceLaws.{joined}
+use Rattle.mem_layout.proofs.store_bytes.Moves.{ending_above}
 use Rattle.mem_layout.specs.declared.sizes.Field.{Field}
 use Rattle.mem_layout.specs.declared.sizes.Measure.{Measure}
 use Rattle.mem_layout.specs.declared.sizes.Entry.{Entry}

@@ -11,7 +11,7 @@ use Rattle.st_values.specs.ShapeLaws.{Unfolds}
 use Rattle.st_values.specs.View.{region_of}
 use Rattle.st_values.proofs.ShapeLaws.{shape_laws}
 use Rattle.mem_image.specs.declared.at.At.{At}
-use Rattle.store_bytes.specs.Place.{size, Place, part_place, inner_place, place_of}
+use Rattle.mem_layout.specs.store_bytes.Place.{size, Place, part_place, inner_place, place_of}
 use Rattle.mem_layout.specs.declared.sizes.Measure.{Measure}
 use Rattle.mem_layout.specs.declared.sizes.Tables.{Tables}
 use Rattle.mem_layout.specs.declared.layout.Region.{Region as Row}

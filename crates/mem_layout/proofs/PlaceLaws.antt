@@ -15,8 +15,8 @@ use Rattle.st_values.specs.Shape as shape
 use Rattle.st_values.specs.Shape.{Shape, Elementary, Enumeration, Reference, Array, Structure, Instance, Fields, no_fields, field_then, count_to, extent, fields_by, shape_within}
 use Rattle.st_values.proofs.ValueLaws.{then_some}
 use Rattle.st_values.proofs.ShapeLaws.{one_deeper}
-use Rattle.store_bytes.specs.Place.{gap, alignment, size, Place, field_place, element_place, part_place, inner_place}
-use Rattle.store_bytes.proofs.Writes.{part_within}
+use Rattle.mem_layout.specs.store_bytes.Place.{gap, alignment, size, Place, field_place, element_place, part_place, inner_place}
+use Rattle.mem_layout.proofs.store_bytes.Writes.{part_within}
 use Rattle.mem_layout.specs.declared.sizes.Field.{Field}
 use Rattle.mem_layout.specs.declared.sizes.Measure.{Measure}
 use Rattle.mem_layout.specs.declared.sizes.Entry.{Entry}

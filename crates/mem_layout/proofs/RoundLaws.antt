@@ -5,13 +5,13 @@ use Rattle.std.proofs.lemmas.Bool.{cases_lt}
 use Rattle.std.proofs.lemmas.Option.{slice_get-get_or}
 use Rattle.st_values.specs.Program.{Variable, Program}
 use Rattle.st_values.specs.Shape.{Shape, Fields, fields_by, shape_within}
-use Rattle.st_initial.specs.declared.members.Members as code
-use Rattle.st_initial.specs.declared.variables.Variable as held
-use Rattle.st_initial.specs.Variables.{variables_of}
-use Rattle.st_initial.specs.Members.{items_at, list_at, Holds}
-use Rattle.store_bytes.specs.Place.{gap, ending}
-use Rattle.store_bytes.proofs.Apart.{same_nat}
-use Rattle.store_bytes.proofs.Store.{get_set_same, get_set_other}
+use Rattle.program_tables.specs.declared.st_initial.members.Members as code
+use Rattle.program_tables.specs.declared.st_initial.variables.Variable as held
+use Rattle.program_tables.specs.st_initial.Variables.{variables_of}
+use Rattle.program_tables.specs.st_initial.Members.{items_at, list_at, Holds}
+use Rattle.mem_layout.specs.store_bytes.Place.{gap, ending}
+use Rattle.mem_layout.proofs.store_bytes.Apart.{same_nat}
+use Rattle.mem_layout.proofs.store_bytes.Store.{get_set_same, get_set_other}
 use Rattle.mem_layout.specs.Layout.{IsSmall, EachIsSmall}
 use Rattle.mem_layout.specs.declared.sizes.Entry.{Entry}
 use Rattle.mem_layout.specs.declared.sizes.Tables.{Tables}

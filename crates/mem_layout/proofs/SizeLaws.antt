@@ -8,7 +8,7 @@ use Rattle.st_types.specs.Elem.{bytes}
 use Rattle.st_values.specs.Program.{Program}
 use Rattle.st_values.specs.Shape.{Shape, extent, shape_within}
 use Rattle.st_values.proofs.ShapeLaws.{one_deeper}
-use Rattle.store_bytes.specs.Place.{size}
+use Rattle.mem_layout.specs.store_bytes.Place.{size}
 use Rattle.mem_layout.specs.Layout.{IsSmall}
 use Rattle.mem_layout.specs.declared.sizes.Measure.{Measure}
 use Rattle.mem_layout.specs.declared.sizes.Entry.{Entry}

@@ -12,8 +12,8 @@ use Rattle.st_values.specs.Shape as shape
 use Rattle.st_values.specs.Shape.{Shape, Elementary, Enumeration, Reference, Array, Structure, Instance, Fields, no_fields, field_then, extent, values_of, fields_of, fields_by, simple_shape, shape_by, shape_within}
 use Rattle.st_values.proofs.ValueLaws.{then_some}
 use Rattle.st_values.proofs.ShapeLaws.{mapped_some}
-use Rattle.st_initial.specs.Variables.{or_none, fields_at}
-use Rattle.store_bytes.specs.Place.{gap, size, ending, alignment}
+use Rattle.program_tables.specs.st_initial.Variables.{or_none, fields_at}
+use Rattle.mem_layout.specs.store_bytes.Place.{gap, size, ending, alignment}
 use Rattle.mem_layout.specs.Layout.{IsSmall, EachIsSmall}
 use Rattle.mem_layout.specs.Private.Table.{members, named, start, wide, fields_in}
 

@@ -16,11 +16,11 @@ use Rattle.st_values.specs.Shape as shape
 use Rattle.st_values.specs.Shape.{Shape, Elementary, Enumeration, Reference, Array, Structure, Instance, Fields, no_fields, field_then, count_to, extent, values_of, simple_shape, shape_within}
 use Rattle.st_values.proofs.ValueLaws.{then_some, index_once}
 use Rattle.st_values.proofs.ShapeLaws.{mapped_some}
-use Rattle.store_bytes.specs.Place.{gap, alignment, size, Place, field_place, element_place, part_place, inner_place}
-use Rattle.store_bytes.specs.PlaceLaws.{IsOwn}
-use Rattle.store_bytes.proofs.Moves.{row_within, element_is}
-use Rattle.store_bytes.proofs.Writes.{no_regions, field_within, inner_within}
-use Rattle.store_bytes.proofs.Apart.{same_nat, same_step, own_bytes}
+use Rattle.mem_layout.specs.store_bytes.Place.{gap, alignment, size, Place, field_place, element_place, part_place, inner_place}
+use Rattle.mem_layout.specs.store_bytes.PlaceLaws.{IsOwn}
+use Rattle.mem_layout.proofs.store_bytes.Moves.{row_within, element_is}
+use Rattle.mem_layout.proofs.store_bytes.Writes.{no_regions, field_within, inner_within}
+use Rattle.mem_layout.proofs.store_bytes.Apart.{same_nat, same_step, own_bytes}
 use Rattle.mem_layout.specs.declared.sizes.Field.{Field}
 use Rattle.mem_layout.specs.declared.sizes.Measure.{Measure}
 use Rattle.mem_layout.specs.declared.sizes.Tables.{Tables}

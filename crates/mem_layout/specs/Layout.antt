@@ -7,8 +7,8 @@ use Rattle.mem_image.specs.declared.at.At.{At}
 use Rattle.st_values.specs.Program.{Region, Program}
 use Rattle.st_values.specs.ShapeLaws.{Unfolds}
 use Rattle.st_values.specs.Shape.{Shape, Array, Structure, Instance, Fields, no_fields, field_then, shape_of, region_shape}
-use Rattle.store_bytes.specs.Place.{size, Place, place_of}
-use Rattle.store_bytes.specs.PlaceLaws.{IsOwn}
+use Rattle.mem_layout.specs.store_bytes.Place.{size, Place, place_of}
+use Rattle.mem_layout.specs.store_bytes.PlaceLaws.{IsOwn}
 
 -- each part has fewer than 2 ^ 32 bytes
 abbrev mutual

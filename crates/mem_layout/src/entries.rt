@@ -3,16 +3,16 @@
 ghost use Rattle.std.specs.Prelude.{◌≡◌, ◌+◌, ◌<◌, ℕ, Some, IfSome, IsSome, IfOk};
 ghost use Rattle.st_values.specs.Program.{Program, Variable as PlainVariable};
 ghost use Rattle.st_values.specs.Shape.{Shape, Fields, no_fields, field_then, fields_by, shape_within};
-ghost use Rattle.st_initial.specs.Variables.{variables_of};
-ghost use Rattle.store_bytes.specs.Place.{gap, alignment, size, ending};
-ghost use Rattle.store_bytes.specs.PlaceLaws.{joined};
+ghost use Rattle.program_tables.specs.st_initial.Variables.{variables_of};
+ghost use Rattle.mem_layout.specs.store_bytes.Place.{gap, alignment, size, ending};
+ghost use Rattle.mem_layout.specs.store_bytes.PlaceLaws.{joined};
 ghost use Rattle.mem_layout.specs.Layout.{IsSmall, EachIsSmall};
 ghost use Rattle.mem_layout.specs.Private.Table.{AreTables, Reach, start, wide};
 ghost use Rattle.mem_layout.specs.Private.Entry.{IsLaid, IsFinished};
 
 use crate::sizes::{Entry, Field, Measure, Tables, padded, size_of};
 use plc_text::{Items, NoMemory};
-use st_initial::Variable;
+use program_tables::Variable;
 use st_types::StType;
 use std::alloc::Global;
 

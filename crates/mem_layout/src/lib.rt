@@ -2,10 +2,13 @@
 #![tactic(auto)]
 
 mod entries;
+pub mod initial_images;
 mod layout;
+pub mod loaded_meaning;
 mod places;
 mod rounds;
 mod sizes;
+pub mod store_bytes;
 mod ways;
 
 pub use layout::Layout;

@@ -4,7 +4,7 @@ ghost use Rattle.std.specs.Prelude.{◌≡◌, suc, ℕ, Some, true, false};
 ghost use Rattle.st_types.specs.declared.st_type.StType.TheVariants as type;
 ghost use Rattle.st_values.specs.Program.{Program};
 ghost use Rattle.st_values.specs.Shape.{Shape, shape_within};
-ghost use Rattle.store_bytes.specs.Place.{part_place, inner_place};
+ghost use Rattle.mem_layout.specs.store_bytes.Place.{part_place, inner_place};
 ghost use Rattle.mem_layout.specs.Layout.{IsSmall, told};
 ghost use Rattle.mem_layout.specs.Private.Table.{AreTables, Reach, named};
 ghost use Rattle.mem_layout.specs.Private.Place.{IsElementAt, LeadsAt, offset_of};

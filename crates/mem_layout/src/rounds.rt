@@ -12,7 +12,7 @@ ghost use Rattle.mem_layout.specs.Private.Rounds.{AreVariables, Stays, Has, with
 use crate::entries::laid_out;
 use crate::sizes::{Entry, Tables, list};
 use plc_text::{Items, NoMemory};
-use st_initial::{Variable, members_of};
+use program_tables::{Variable, members_of};
 use st_tree::Program;
 use std::alloc::Global;
 

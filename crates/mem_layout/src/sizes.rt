@@ -3,7 +3,7 @@
 ghost use Rattle.std.specs.Prelude.{◌≡◌, ◌+◌, ◌*◌, ◌<◌, ℕ, Bool, IfSome, IsSome, Some, slice_get};
 ghost use Rattle.st_values.specs.Program.{Program};
 ghost use Rattle.st_values.specs.Shape.{Shape, extent, shape_within};
-ghost use Rattle.store_bytes.specs.Place.{gap};
+ghost use Rattle.mem_layout.specs.store_bytes.Place.{gap};
 ghost use Rattle.mem_layout.specs.Layout.{IsSmall};
 ghost use Rattle.mem_layout.specs.Private.Table.{AreTables, Reach, IsMeasure, list_of};
 ghost use Rattle.mem_layout.specs.declared.sizes.Entry.{Entry};

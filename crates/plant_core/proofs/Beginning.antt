@@ -5,8 +5,8 @@ use Rattle.cycle_journal.specs.declared.entry.Entry.{Entry}
 use Rattle.plant_rules.specs.Meaning.{Contents, Meaning, bytes_at}
 use Rattle.plant_rules.specs.Next.{IsNextWhole}
 use Rattle.plant_rules.specs.History.{past, idle, open_by, done, opening, stage_at}
-use Rattle.plant_history.proofs.Running.{none_open}
-use Rattle.play_order.specs.Progress.{Standing}
+use Rattle.plant_rules.proofs.plant_history.Running.{none_open}
+use Rattle.plant_core.specs.play_order.Progress.{Standing}
 use Rattle.plant_core.specs.declared.stage.Status.{Status}
 use Rattle.plant_core.specs.declared.stage.Status.TheVariants.{Idle}
 use Rattle.plant_core.specs.declared.stage.Ongoing.TheVariants.{Free}

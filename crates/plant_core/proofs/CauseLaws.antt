@@ -16,9 +16,9 @@ use Rattle.plant_rules.specs.Meaning.{Contents, Meaning, Frames, Has, Rising, Fi
 use Rattle.plant_rules.specs.Next.{Spare}
 use Rattle.plant_rules.specs.One.{held_after}
 use Rattle.plant_rules.specs.History.{Past, Script, State, Stage, idle, open_by, done, Turn, wanted_by, under_way, Happening, stage_at, at_play, now_of, input_of, task_of, is_cycle, is_change, is_reset, IsOpen, Before, Waits, MayBegin, Unclaimed, ComesTo, Follows, resumed, changed, held_with, state_of, with_event}
-use Rattle.plant_history.proofs.Running.{within, cycle_not_change, reset_not_change}
-use Rattle.plant_moves.specs.Moves.{MayMove, Moved, Taken, MayTake}
-use Rattle.play_order.specs.Progress.{Misses, MissesFirst, IsNamed}
+use Rattle.plant_rules.proofs.plant_history.Running.{within, cycle_not_change, reset_not_change}
+use Rattle.plant_core.specs.plant_moves.Moves.{MayMove, Moved, Taken, MayTake}
+use Rattle.plant_core.specs.play_order.Progress.{Misses, MissesFirst, IsNamed}
 use Rattle.plant_core.specs.declared.stage.Status.{Status}
 use Rattle.plant_core.specs.Stage.{stage_of, done_of}
 use Rattle.plant_core.specs.Hub.{Sound}

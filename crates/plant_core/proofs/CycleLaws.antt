@@ -9,10 +9,10 @@ use Rattle.plant_rules.specs.Meaning.{Contents, Meaning, Frames, bytes_at, Has, 
 use Rattle.plant_rules.specs.Next.{Spare}
 use Rattle.plant_rules.specs.One.{answer_of, held_after}
 use Rattle.plant_rules.specs.History.{Past, Script, begun, finished, State, Stage, idle, open_by, done, Turn, free, wanted_by, under_way, stage_at, with_stage, at_play, now_of, input_of, task_of, is_cycle, entry, finish_of, cycle_left, cycle_reply, IsOpen, MayBegin, state_of, with_event}
-use Rattle.plant_history.proofs.Running.{within, with_same, with_other, opened_after, still_open, done_open, idle_open, idle_done}
-use Rattle.plant_moves.specs.Moves.{Moved, MayMove, Taken, MayTake}
-use Rattle.plant_moves.proofs.Copies.{has?}
-use Rattle.play_order.specs.Progress.{marked}
+use Rattle.plant_rules.proofs.plant_history.Running.{within, with_same, with_other, opened_after, still_open, done_open, idle_open, idle_done}
+use Rattle.plant_core.specs.plant_moves.Moves.{Moved, MayMove, Taken, MayTake}
+use Rattle.plant_core.proofs.plant_moves.Copies.{has?}
+use Rattle.plant_core.specs.play_order.Progress.{marked}
 use Rattle.plant_core.specs.declared.stage.Status.{Status}
 use Rattle.plant_core.specs.declared.stage.Status.TheVariants.{Done}
 use Rattle.plant_core.specs.Stage.{stage_of, Room}

@@ -9,8 +9,8 @@ use Rattle.plant_rules.specs.Meaning.{Contents, Meaning, Frames, bytes_at}
 use Rattle.plant_rules.specs.Next.{AllKits}
 use Rattle.plant_rules.specs.One.{since_by}
 use Rattle.plant_rules.specs.History.{Past, Script, answered, wanted, quieted, changed, resumed, denied, reset, State, idle, open_by, done, Turn, free, wanted_by, under_way, stage_at, with_stage, at_play, task_of, is_change, entry, loaded_by, held_with, IsOpen, Follows, state_of, with_event}
-use Rattle.plant_history.proofs.Running.{with_other, idle_done, reset_not_change}
-use Rattle.play_order.specs.Progress.{marked}
+use Rattle.plant_rules.proofs.plant_history.Running.{with_other, idle_done, reset_not_change}
+use Rattle.plant_core.specs.play_order.Progress.{marked}
 use Rattle.plant_core.specs.declared.stage.Status.TheVariants.{Done}
 use Rattle.plant_core.specs.declared.stage.Ongoing.{Ongoing}
 use Rattle.plant_core.specs.declared.stage.Ongoing.TheVariants as ongoing

@@ -4,7 +4,7 @@ use Rattle.std.proofs.lemmas.List.Sums.{fold-append}
 use Rattle.cycle_journal.specs.declared.entry.Entry.{Entry}
 use Rattle.plant_rules.specs.Meaning.{Contents, Meaning}
 use Rattle.plant_rules.specs.History.{Past, Script, Step, Happening, State, Stage, idle, open_by, done, Turn, free, wanted_by, under_way, stage_at, with_stage, at_play, after, then_step, is_change, IsOpen, Writing, Follows, LegalFrom, Legal, state_of, opening, with_event}
-use Rattle.plant_history.proofs.Running.{within, with_other, still_open, idle_open, idle_done}
+use Rattle.plant_rules.proofs.plant_history.Running.{within, with_other, still_open, idle_open, idle_done}
 use Rattle.plant_core.specs.Stage.{stage_of, turn_of, done_of, entries_left, events_left, events_made, total_of, Room}
 use Rattle.plant_core.specs.Hub.{Sound}
 use Rattle.plant_core.specs.Private.Tasks.{AreHeld, AreSince}

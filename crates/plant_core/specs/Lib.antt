@@ -4,3 +4,5 @@ pub mod Hub
 pub mod Claim
 pub mod Answers
 pub mod Private
+pub mod plant_moves
+pub mod play_order

@@ -12,11 +12,11 @@ use crate::answers::{Able, Begun, Timing};
 use crate::claim::{Claim, Ran};
 use crate::event::{Event, What};
 use crate::hub::Core;
+use crate::plant_moves::{move_all, take_images};
 use crate::stage::Status;
 use crate::tasks::hold;
 use arrayvec::ArrayVec;
 use cycle_journal::{Answer, CycleReply, Entry, Play};
-use plant_moves::{move_all, take_images};
 use plant_rules::{Controlled, Kit};
 use std::snapshot::Snapshot;
 

@@ -9,11 +9,11 @@ ghost use Rattle.plant_core.specs.Hub.{Sound, HasShortInputs};
 ghost use Rattle.plant_core.specs.Private.Ledger.{IsBlank};
 
 use crate::event::{Event, What};
+use crate::play_order::Progress;
 use crate::stage::{Ongoing, Status, all_idle};
 use cycle_journal::{Entry, Play};
 use mem_image::Regions;
 use plant_rules::{Controlled, Kit, Next};
-use play_order::Progress;
 use plc_text::{Items, NoMemory, Text};
 use st_names::Names;
 use std::alloc::Global;

@@ -4,9 +4,9 @@ ghost use Rattle.std.specs.Prelude.{◌≡◌, ◌<◌, ◌^◌, length};
 ghost use Rattle.plant_rules.specs.One.{since_by};
 ghost use Rattle.plant_core.specs.Private.Tasks.{held_by, freed_by, AreFree, AreRenewed};
 
+use crate::play_order::Progress;
 use cycle_journal::{Answer, CycleReply};
 use plant_rules::Controlled;
-use play_order::Progress;
 
 /// After a fault the task is held.
 pub fn hold(held: &mut Vec<bool>, reply: &CycleReply, place: u32)

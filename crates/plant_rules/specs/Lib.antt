@@ -3,3 +3,4 @@ pub mod Denial
 pub mod Next
 pub mod One
 pub mod History
+pub mod plant_history

@@ -2,7 +2,9 @@
 #![tactic(auto)]
 
 mod controlled;
+pub mod plant_history;
 mod quiet;
 
 pub use controlled::{Backed, Controlled, Kit, Next};
+pub use plant_history::history_laws;
 pub use quiet::{Migrated, Quiet};

@@ -14,9 +14,9 @@ use Rattle.cycle_journal.specs.Interleaving.{Phase}
 use Rattle.plant_rules.specs.Meaning.{Contents, Meaning, Frames, Whole}
 use Rattle.plant_rules.specs.Denial.{OnRefused}
 use Rattle.plant_rules.specs.History.{Past, Script, Step, Happening, answered, begun, finished, wanted, quieted, changed, resumed, denied, reset, Stage, idle, open_by, done, Turn, free, wanted_by, under_way, State, stage_at, source_of, at_play, finish_of, after, state_of, with_event, script_of, past, ComesTo, Denies, Legal}
-use Rattle.plant_history.specs.Running.{HistoryLaws}
-use Rattle.plant_history.proofs.AllLaws.{history_laws}
-use Rattle.plant_history.proofs.Running.{idle_done, within, with_same, free_away, wanted_away}
+use Rattle.plant_rules.specs.plant_history.Running.{HistoryLaws}
+use Rattle.plant_rules.proofs.plant_history.AllLaws.{history_laws}
+use Rattle.plant_rules.proofs.plant_history.Running.{idle_done, within, with_same, free_away, wanted_away}
 use Rattle.plant_core.specs.declared.answers.Wish.{Wish}
 use Rattle.plant_core.specs.declared.answers.ResetDone.{ResetDone}
 use Rattle.plant_core.specs.declared.answers.ResetDone.TheVariants as resets

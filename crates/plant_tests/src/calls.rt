@@ -12,9 +12,9 @@ ghost use Rattle.plant_rules.specs.History.{state_of, at_play, is_cycle, is_chan
 ghost use Rattle.plant_rules.specs.Next.{IsKit, IsNextWhole};
 ghost use Rattle.plant_tests.specs.Calls.{SortAs};
 
+use crate::plant_counters::Counters;
 use cycle_journal::{Play, journal_text};
 use plant_core::{Begun, Claim, Core, Later, OlderWish, ResetDone, Wanted, Wish};
-use plant_counters::Counters;
 use plant_rules::{Controlled, Next, Quiet};
 use plc_text::{Denied, Items, NoMemory, Text, number, split_field};
 use scenario::{Scenario, read_scenario};

@@ -2,5 +2,7 @@
 #![tactic(auto)]
 
 mod calls;
+pub mod plant_counters;
 
 pub use calls::tell;
+pub use plant_counters::{Counters, Draft};

@@ -1,6 +1,6 @@
 -- How a command ended, by the status of the program, and what each command writes.
 use Rattle.std.specs.Prelude.{ℕ, List}
-use Rattle.check_console.specs.Report.{CheckReports}
+use Rattle.console.specs.check_console.Report.{CheckReports}
 use Rattle.console_command.specs.declared.outcome.Cause.TheVariants as cause
 use Rattle.console_command.specs.declared.outcome.Outcome.{Outcome}
 use Rattle.console_command.specs.declared.outcome.Outcome.TheVariants as outcome
@@ -8,10 +8,10 @@ use Rattle.console_command.specs.declared.outcome.Status.{Status}
 use Rattle.console_command.specs.declared.outcome.Status.TheVariants as status
 use Rattle.console_command.specs.declared.outcome.Verdict.{Verdict}
 use Rattle.console_command.specs.declared.outcome.Verdict.TheVariants as verdict
-use Rattle.console_words.specs.declared.words.Order.{Order}
-use Rattle.console_words.specs.declared.words.Order.TheVariants.{Check, Play}
+use Rattle.console.specs.declared.console_words.words.Order.{Order}
+use Rattle.console.specs.declared.console_words.words.Order.TheVariants.{Check, Play}
 use Rattle.source_check.specs.Judge.{Accepts, Refuses}
-use Rattle.play_console.specs.Report.{PlayReports}
+use Rattle.console.specs.play_console.Report.{PlayReports}
 
 abbrev pub outcome_of : Status → Outcome
 outcome_of status.Done = outcome.Whole verdict.Done

@@ -4,15 +4,13 @@ ghost use Rattle.std.specs.Prelude.{◌≡◌, ◌≢◌, ◌↔◌, ◌⊎◌, 
 ghost use Rattle.plc_io.specs.Faults.{Rose};
 ghost use Rattle.plc_io.specs.Told.{WhereTold};
 ghost use Rattle.console_command.specs.Outcome.{byte_limit, IsComplete, OnSilence, Wrote};
-ghost use Rattle.console_words.specs.Words.{order_named};
-ghost use Rattle.console_words.specs.declared.words.Order.{Order as Ordered};
+ghost use Rattle.console.specs.console_words.Words.{order_named};
+ghost use Rattle.console.specs.declared.console_words.words.Order.{Order as Ordered};
 ghost use Rattle.plc_console.specs.Plc.{outcome_of, ReportsOf};
 
 use crate::gate::Gate;
-use check_console::check;
+use console::{Order, check, order_of, play};
 use console_command::{Cause, Outcome, Status};
-use console_words::{Order, order_of};
-use play_console::play;
 use plc_io::{Sink, Source};
 use plc_text::Text;
 use source_check::Language;

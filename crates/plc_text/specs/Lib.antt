@@ -5,6 +5,7 @@ pub mod Lines
 pub mod Numbers
 pub mod Text
 pub mod Words
+pub mod formers
 pub use Rattle.hex.specs.Hex
 pub use Rattle.sqlite_items.specs.declared.boxed.Boxed
 pub use Rattle.sqlite_items.specs.declared.items.Items

@@ -6,8 +6,8 @@ use Rattle.st_tree.specs.declared.program.RegionDecl.{RegionDecl}
 use Rattle.st_values.specs.Program.{Variable, Program}
 use Rattle.st_values.specs.Value.{Path}
 use Rattle.st_values.specs.View.{region_of}
-use Rattle.st_initial.specs.declared.variables.Variable as code
-use Rattle.st_initial.specs.Variables.{variable_of, variables_of}
+use Rattle.program_tables.specs.declared.st_initial.variables.Variable as code
+use Rattle.program_tables.specs.st_initial.Variables.{variable_of, variables_of}
 use Rattle.st_meaning.specs.ProcessImage.{Located, located, located_variables, located_in, located_from}
 use Rattle.process_image.specs.Private.Places.{located_at, place_in}
 

@@ -3,15 +3,15 @@
 ghost use Rattle.std.specs.Prelude.{◌≡◌, ◌++◌, IfOk, OnOk, map, option_map};
 ghost use Rattle.st_meaning.specs.ProcessImage as words;
 ghost use Rattle.st_values.specs.View.{program_of, region_of};
-ghost use Rattle.st_initial.specs.Members as tables;
-ghost use Rattle.st_initial.specs.Variables.{variables_of};
+ghost use Rattle.program_tables.specs.st_initial.Members as tables;
+ghost use Rattle.program_tables.specs.st_initial.Variables.{variables_of};
 ghost use Rattle.process_image.specs.Located.{all_seen};
 ghost use Rattle.process_image.specs.Private.Places.{located_at, place_in};
 
 use call_steps::class_of_kind;
 use plc_text::{NoMemory, Text, narrowed};
+use program_tables::{Members, Variable};
 use run_steps::elem_of;
-use st_initial::{Members, Variable};
 use st_tree::{Path, Program, RegionDecl, Step, Steps};
 use st_types::{Elem, StType};
 use std::alloc::Global;

@@ -1,3 +1,4 @@
 pub mod Routine
 pub mod Interfaces
 pub mod Private
+pub mod st_initial

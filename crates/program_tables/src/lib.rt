@@ -8,7 +8,12 @@ mod graph;
 mod parts;
 mod places;
 mod routine;
+pub mod st_initial;
 mod tables;
 
 pub use routine::{RoutineId, line, method_at, name, statements};
+pub use st_initial::{
+    Members, Variable, class_variables, elements_given, fields_given, given_for, initial,
+    instance_variables, kind_of, members_of, number_given, push_items, push_own, structure_fields,
+};
 pub use tables::ProgramTables;

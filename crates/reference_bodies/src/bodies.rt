@@ -19,7 +19,7 @@ ghost use Rattle.reference_bodies.specs.Private.Turns.{case_number, condition, c
 use crate::counting::{add_step, begin, is_within};
 use crate::flow::{Flow, end_of, ended, goes_on, is_end};
 use crate::steps::{attempted, no_zero};
-use plc_series::Series;
+use plc_text::Series;
 use program_tables::RoutineId;
 use reference_values::Walk;
 use reference_values::call_frames::Given;

@@ -17,11 +17,9 @@ ghost use Rattle.reference_change.specs.Private.Turn.{IsTurn, new_of, old_of};
 
 use crate::phases::{come, fresh_store, leave};
 use crate::turn::Turn;
-use change_carry::change_names::{ChangeNames, Side};
-use change_carry::change_paths::{Change, FieldNumbers};
+use change_carry::change_names::{Change, ChangeNames, FieldNumbers, Side};
 use change_kept::kept_regions;
-use plc_series::Series;
-use plc_text::NoMemory;
+use plc_text::{NoMemory, Series};
 use reference_hooks::reference_tasks::Loaded;
 use reference_hooks::{Halt, Stopped};
 use run_state::{Log, RunState, copy_store};

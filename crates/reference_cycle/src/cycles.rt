@@ -13,8 +13,7 @@ ghost use Rattle.process_image.specs.Located.{all_seen};
 
 use crate::ended::Ended;
 use cycle_journal::CycleReply;
-use plc_series::Series;
-use plc_text::{Fault, NoMemory};
+use plc_text::{Fault, NoMemory, Series};
 use process_image::{Located, collect, latch};
 use reference_tasks::{Loaded, run_task};
 use run_state::{Log, RunState, Stop, roll_back};

@@ -1,7 +1,7 @@
 //! How a cycle ended.
 
 use cycle_journal::CycleReply;
-use plc_series::Series;
+use plc_text::Series;
 use value_trees::Member;
 
 /// How a cycle ended: its reply, and the store that it leaves.

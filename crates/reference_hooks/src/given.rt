@@ -8,8 +8,7 @@ ghost use Rattle.reference_tasks.specs.Opening.{given_of};
 ghost use Rattle.routine_tables.specs.Parameters.{parameters_of, recipient_of};
 ghost use Rattle.value_trees.specs.Value.{value_of};
 
-use plc_series::Series;
-use plc_text::NoMemory;
+use plc_text::{NoMemory, Series};
 use reference_tasks::call_frames::Given;
 use reference_tasks::call_steps::given_value;
 use routine_tables::{Parameter, Recipient};

@@ -14,8 +14,7 @@ ghost use Rattle.reference_hooks.specs.Private.Hooks.{Stops, hook_call, hook_of,
 
 use crate::given::give_flags;
 use crate::tables::{When, hook_at};
-use plc_series::Series;
-use plc_text::{Fault, NoMemory, Text};
+use plc_text::{Fault, NoMemory, Series, Text};
 use program_tables::{RoutineId, line, name};
 use reference_tasks::{Loaded, enter};
 use run_state::{Frame, Log, RunState, Stop, spend};

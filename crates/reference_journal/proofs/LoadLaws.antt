@@ -6,8 +6,8 @@ use Rattle.plc_text.specs.declared.refusal.Refusal.{Refusal}
 use Rattle.st_tree.specs.declared.program.Program.{Program as CheckedProgram}
 use Rattle.st_values.specs.Program.{Program}
 use Rattle.st_values.specs.View.{program_of}
-use Rattle.st_initial.specs.Members as members
-use Rattle.st_frame.specs.Footprint.{IsFootprint}
+use Rattle.program_tables.specs.st_initial.Members as members
+use Rattle.st_meaning.specs.st_frame.Footprint.{IsFootprint}
 use Rattle.st_change.specs.Change.{start}
 use Rattle.st_change.specs.OneThread.{hook_refusal}
 use Rattle.region_instances.specs.Instances.{RegionsUnfold}

@@ -10,13 +10,11 @@ ghost use Rattle.reference_journal.specs.Private.Footprints.{AreFootprints};
 ghost use Rattle.reference_journal.specs.Private.Tables.{AreTables};
 
 use footprints::Footprints;
-use plc_series::Series;
-use plc_text::{Code, Fault, NoMemory, Refusal, Text, narrowed};
-use program_tables::ProgramTables;
+use plc_text::{Code, Fault, NoMemory, Refusal, Series, Text, narrowed};
+use program_tables::{Members, ProgramTables, members_of};
 use reference_start::reference_tasks::Loaded;
 use reference_start::{Started, Stopped, start};
 use routine_tables::{RoutineTables, routine_tables};
-use st_initial::{Members, members_of};
 use st_tree::Program;
 use std::alloc::Global;
 use value_trees::Member;

@@ -9,7 +9,7 @@ use Rattle.st_values.specs.Program.{Program}
 use Rattle.st_values.specs.Value.{Store}
 use Rattle.st_values.specs.View.{program_of}
 use Rattle.st_meaning.specs.Cycle.{cycle}
-use Rattle.st_frame.specs.Footprint.{IsFootprint}
+use Rattle.st_meaning.specs.st_frame.Footprint.{IsFootprint}
 use Rattle.value_trees.specs.Value.{members_of}
 use Rattle.reference_cycle.specs.Cycle.{ended}
 use Rattle.reference_cycle.specs.declared.ended.Ended.{Ended}

@@ -2,7 +2,7 @@
 use Rattle.std.specs.Prelude.{◌≡◌, ℕ, List, map, Some, slice_get}
 use Rattle.st_values.specs.View.{program_of}
 use Rattle.st_meaning.specs.ProcessImage.{located_of}
-use Rattle.st_frame.specs.Footprint.{IsFootprint}
+use Rattle.st_meaning.specs.st_frame.Footprint.{IsFootprint}
 use Rattle.st_change.specs.OneThread.{Controller}
 use Rattle.value_trees.specs.Value.{members_of}
 use Rattle.reference_cycle.specs.Located.{all_seen}

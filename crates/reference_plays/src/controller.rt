@@ -1,7 +1,6 @@
 //! What a controller runs, and what it holds between plays.
 
-use plc_series::Series;
-use plc_text::Text;
+use plc_text::{Series, Text};
 use reference_cycle::process_image::Located;
 use reference_cycle::reference_tasks::Loaded;
 use value_trees::Member;

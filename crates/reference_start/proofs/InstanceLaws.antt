@@ -9,8 +9,8 @@ use Rattle.st_types.specs.declared.st_type.StType.TheOpen.{StType-F}
 use Rattle.st_tree.specs.declared.path.Path.{Path}
 use Rattle.st_tree.specs.declared.path.Step.TheVariants as step
 use Rattle.st_rules.proofs.ListLaws.{drop-at, drop-end}
-use Rattle.st_initial.specs.declared.variables.Variable as held
-use Rattle.st_initial.specs.Variables.{variable_of, variables_of, fields_at, or_none}
+use Rattle.program_tables.specs.declared.st_initial.variables.Variable as held
+use Rattle.program_tables.specs.st_initial.Variables.{variable_of, variables_of, fields_at, or_none}
 use Rattle.st_values.specs.Program.{Variable, TypeBody, an_alias, an_enumeration, a_structure, TypeEntry, Class, Program, class_at, class_variables}
 use Rattle.st_values.specs.Shape.{Shape, Elementary, Enumeration, Reference, Interface, Array, Structure, Instance, Fields, no_fields, field_then, extent, fields_by, values_of, fields_of, simple_shape, shape_by, shape_within}
 use Rattle.st_values.specs.Value.{◌>>=◌}

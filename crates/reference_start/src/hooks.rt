@@ -19,8 +19,7 @@ ghost use Rattle.reference_start.specs.Private.Instances.{all_of, instance_of};
 
 use crate::instances::Instance;
 use call_frames::Given;
-use plc_series::Series;
-use plc_text::{Fault, NoMemory, Text, narrowed};
+use plc_text::{Fault, NoMemory, Series, Text, narrowed};
 use program_tables::{RoutineId, line, name};
 use reference_tasks::call_steps::given_value;
 use reference_tasks::{Loaded, enter};

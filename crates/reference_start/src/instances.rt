@@ -3,14 +3,14 @@
 ghost use Rattle.std.specs.Prelude.{◌≡◌, ◌∷◌, ◌++◌, [], IfOk, IfSome, OnOk, option_map};
 ghost use Rattle.st_values.specs.Shape.{extent};
 ghost use Rattle.st_values.specs.View.{program_of};
-ghost use Rattle.st_initial.specs.Members as tables;
-ghost use Rattle.st_initial.specs.Variables.{variables_of};
+ghost use Rattle.program_tables.specs.st_initial.Members as tables;
+ghost use Rattle.program_tables.specs.st_initial.Variables.{variables_of};
 ghost use Rattle.st_change.specs.Instances.{further};
 ghost use Rattle.region_instances.specs.Instances.{RegionsUnfold};
 ghost use Rattle.reference_start.specs.Private.Instances.{AddsElements, AddsFields, AddsType, AreInstances};
 
 use plc_text::{Items, NoMemory, narrowed};
-use st_initial::{Members, Variable};
+use program_tables::{Members, Variable};
 use st_tree::{Path, Program, Step, Steps};
 use st_types::StType;
 use std::alloc::Global;

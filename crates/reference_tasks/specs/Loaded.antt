@@ -1,7 +1,7 @@
 -- The tables with which a program is run.
 use Rattle.std.specs.Prelude.{◌≡◌}
 use Rattle.st_values.specs.View.{program_of}
-use Rattle.st_initial.specs.Members as members
+use Rattle.program_tables.specs.st_initial.Members as members
 use Rattle.reference_bodies.specs.Tables.{Holds}
 use Rattle.reference_tasks.specs.declared.loaded.Loaded.{Loaded}
 

@@ -13,8 +13,7 @@ ghost use Rattle.reference_tasks.specs.Private.Entered.{Entered};
 ghost use Rattle.reference_tasks.specs.Private.Programs.{body_run};
 
 use crate::loaded::Loaded;
-use plc_series::Series;
-use plc_text::FaultKind;
+use plc_text::{FaultKind, Series};
 use program_tables::{RoutineId, statements};
 use reference_bodies::Bodies;
 use reference_bodies::call_frames::{Given, open};

@@ -10,8 +10,7 @@ ghost use Rattle.reference_tasks.specs.Private.Programs.{in_order, one_program};
 
 use crate::entering::enter;
 use crate::loaded::Loaded;
-use plc_series::Series;
-use plc_text::FaultKind;
+use plc_text::{FaultKind, Series};
 use program_tables::RoutineId;
 use reference_bodies::call_steps::class_of_kind;
 use run_state::{RunState, Stop, fault};

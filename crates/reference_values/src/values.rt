@@ -31,8 +31,7 @@ use call_steps::{
     Callee, Search, base_body, body_on, callee_of, converted_value, function_of, given_place,
     given_value, is_in_out, method_on, next_parameter, output_left, parameter_named, same_in_outs,
 };
-use plc_series::Series;
-use plc_text::{FaultKind, NoMemory};
+use plc_text::{FaultKind, NoMemory, Series};
 use program_tables::RoutineId;
 use run_state::{Frame, RunState, Spot, Stop, fault, put, spend};
 use st_tree::{Argument, Expr, Note, Path, Place, Selector, Tail, Target};

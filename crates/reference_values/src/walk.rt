@@ -11,7 +11,7 @@ ghost use Rattle.reference_values.specs.Walks.{Walks};
 
 use call_steps::call_frames::Given;
 use call_steps::routine_tables::{Parameter, RoutineTables};
-use plc_series::Series;
+use plc_text::Series;
 use program_tables::{ProgramTables, RoutineId};
 use run_state::{Frame, RunState, Stop};
 use st_tree::Path;

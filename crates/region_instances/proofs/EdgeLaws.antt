@@ -8,10 +8,10 @@ use Rattle.st_rules.specs.Chains.{is_among}
 use Rattle.st_rules.proofs.Booleans.{either, false≢true}
 use Rattle.graph_reach.specs.Reach.{ahead_in, AreEdges}
 use Rattle.st_types.specs.declared.st_type.StType.{StType}
-use Rattle.st_initial.specs.declared.members.Members.{Members}
-use Rattle.st_initial.specs.declared.variables.Variable as code
-use Rattle.st_initial.specs.Variables.{variables_of}
-use Rattle.st_initial.specs.Members.{list_at}
+use Rattle.program_tables.specs.declared.st_initial.members.Members.{Members}
+use Rattle.program_tables.specs.declared.st_initial.variables.Variable as code
+use Rattle.program_tables.specs.st_initial.Variables.{variables_of}
+use Rattle.program_tables.specs.st_initial.Members.{list_at}
 use Rattle.st_values.specs.Program.{Variable}
 use Rattle.region_instances.specs.declared.held.Held.{Held}
 use Rattle.region_instances.specs.declared.held.Held.TheVariants as held

@@ -9,15 +9,15 @@ use Rattle.st_types.specs.declared.st_type.StType.TheOpen.{StType-F}
 use Rattle.st_tree.specs.declared.path.Step.{Step}
 use Rattle.st_tree.specs.declared.path.Step.TheVariants as step
 use Rattle.st_rules.specs.Chains.{is_among, Leads, itself, onward}
-use Rattle.st_initial.specs.Variables.{or_none, fields_at}
+use Rattle.program_tables.specs.st_initial.Variables.{or_none, fields_at}
 use Rattle.st_values.specs.Program.{Variable, Class, TypeEntry, Program, class_variables}
 use Rattle.st_values.specs.Value.{◌>>=◌, place_of_index}
 use Rattle.st_values.specs.Shape.{Shape, Elementary, Enumeration, Reference, Interface, Array, Structure, Instance, Fields, extent, count_to, fields_of, field, element_shape, shape_part, shape_at}
 use Rattle.st_values.specs.ShapeLaws.{Unfolds, EachUnfolds}
 use Rattle.st_values.proofs.ValueLaws.{then_some}
-use Rattle.st_frame.proofs.Values.{element_of}
-use Rattle.st_frame.proofs.Unfolded.{opened, field_is, field_of}
-use Rattle.st_frame.proofs.Spots.{index_there}
+use Rattle.st_meaning.proofs.st_frame.Values.{element_of}
+use Rattle.st_meaning.proofs.st_frame.Unfolded.{opened, field_is, field_of}
+use Rattle.st_meaning.proofs.st_frame.Spots.{index_there}
 use Rattle.region_instances.specs.declared.held.Held.{Held}
 use Rattle.region_instances.specs.declared.held.Held.TheVariants as held
 use Rattle.region_instances.specs.declared.held.Counts.{Counts}

@@ -13,7 +13,7 @@ use Rattle.st_values.specs.View.{program_of, region_of}
 use Rattle.st_values.specs.Shape.{Shape, Instance, shape_of, shape_at, region_shape}
 use Rattle.st_values.specs.ShapeLaws.{Unfolds}
 use Rattle.st_values.proofs.ValueLaws.{then_some}
-use Rattle.st_frame.proofs.Unfolded.{within_bound}
+use Rattle.st_meaning.proofs.st_frame.Unfolded.{within_bound}
 use Rattle.region_instances.specs.declared.held.Counts.{Counts}
 use Rattle.region_instances.specs.Instances.{HoldsInstance, RegionsUnfold}
 use Rattle.region_instances.specs.Private.Held.{node_of}

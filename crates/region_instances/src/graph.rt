@@ -1,12 +1,12 @@
 //! The graph of what instances and structures hold: classes and programs first, structures behind them.
 
 ghost use Rattle.std.specs.Prelude.{◌≡◌, ◌+◌, ◌≤◌, ◌++◌, map, IfOk, OnOk};
-ghost use Rattle.st_initial.specs.Variables.{variables_of};
+ghost use Rattle.program_tables.specs.st_initial.Variables.{variables_of};
 ghost use Rattle.region_instances.specs.Private.Graph as words;
 
 use crate::held::{Counts, node_of};
 use plc_text::{Items, NoMemory};
-use st_initial::{Members, Variable};
+use program_tables::{Members, Variable};
 use std::alloc::Global;
 
 /// The nodes of what variables hold.

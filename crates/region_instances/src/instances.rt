@@ -3,7 +3,7 @@
 ghost use Rattle.std.specs.Prelude.{◌≡◌, ◌+◌, ◌≤◌, map, length, IfOk};
 ghost use Rattle.std.specs.Bool.{Decides};
 ghost use Rattle.graph_reach.specs.Reach.{AreReached};
-ghost use Rattle.st_initial.specs.Members.{Holds};
+ghost use Rattle.program_tables.specs.st_initial.Members.{Holds};
 ghost use Rattle.st_values.specs.View.{program_of};
 ghost use Rattle.region_instances.specs.Instances.{HoldsInstance, RegionsUnfold};
 ghost use Rattle.region_instances.specs.Private.Graph as words;
@@ -14,7 +14,7 @@ use crate::graph::graph;
 use crate::held::{Counts, node_of};
 use graph_reach::{Row, find_reached};
 use plc_text::{Items, NoMemory, narrowed};
-use st_initial::members_of;
+use program_tables::members_of;
 use st_tree::{Program, RegionDecl, SeenProgram};
 use std::alloc::Global;
 use std::marker::Model;

@@ -5,7 +5,7 @@ use Rattle.std.proofs.lemmas.Option.{slice_get_past}
 use Rattle.st_tree.specs.declared.program.Program.{Program as CheckedProgram}
 use Rattle.st_values.specs.Program.{Routine, body_in}
 use Rattle.st_values.specs.View.{program_of}
-use Rattle.st_initial.specs.Variables.{variables_of}
+use Rattle.program_tables.specs.st_initial.Variables.{variables_of}
 use Rattle.program_tables.specs.Routine.{members_of, method_in, or_empty, routine_of}
 use Rattle.program_tables.specs.declared.routine.RoutineId.{RoutineId}
 use Rattle.program_tables.specs.declared.routine.RoutineId.TheVariants as id

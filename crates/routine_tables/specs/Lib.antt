@@ -1,3 +1,4 @@
 pub mod Parameters
 pub mod Tables
 pub mod Private
+pub mod signature_tables

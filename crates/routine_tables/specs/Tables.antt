@@ -2,7 +2,7 @@
 use Rattle.std.specs.Prelude.{◌≡◌, List, [], Option, Some, None, slice_get}
 use Rattle.st_tree.specs.declared.program.Program.{Program}
 use Rattle.st_values.specs.Program.{Variable, Parameter, Routine}
-use Rattle.st_initial.specs.Variables.{variables_of}
+use Rattle.program_tables.specs.st_initial.Variables.{variables_of}
 use Rattle.program_tables.specs.Routine.{routine_of}
 use Rattle.program_tables.specs.declared.routine.RoutineId.{RoutineId}
 use Rattle.program_tables.specs.declared.routine.RoutineId.TheVariants as id

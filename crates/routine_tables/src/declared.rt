@@ -3,12 +3,11 @@
 ghost use Rattle.std.specs.Prelude.{◌≡◌, ◌++◌, reverse, slice_get, IfOk, OnOk};
 ghost use Rattle.st_values.specs.View as view;
 ghost use Rattle.program_tables.specs.Routine.{members_of};
-ghost use Rattle.st_initial.specs.Variables.{variables_of};
+ghost use Rattle.program_tables.specs.st_initial.Variables.{variables_of};
 ghost use Rattle.routine_tables.specs.Private.Declared as declared;
 
 use plc_text::NoMemory;
-use program_tables::ProgramTables;
-use st_initial::{Variable, push_items};
+use program_tables::{ProgramTables, Variable, push_items};
 use st_rules::is_constant;
 use st_tree::{ClassDecl, Member, Note, Program, Section, SectionSort};
 use std::alloc::Global;

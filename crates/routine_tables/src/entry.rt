@@ -4,7 +4,7 @@ ghost use Rattle.std.specs.Prelude.{◌≡◌, [], IfOk};
 ghost use Rattle.st_values.specs.View as view;
 ghost use Rattle.program_tables.specs.Routine.{routine_of};
 ghost use Rattle.program_tables.specs.declared.routine.RoutineId.TheVariants as id;
-ghost use Rattle.st_initial.specs.Variables.{variables_of};
+ghost use Rattle.program_tables.specs.st_initial.Variables.{variables_of};
 ghost use Rattle.routine_tables.specs.Parameters.{parameters_of};
 ghost use Rattle.routine_tables.specs.Private.Declared as declared;
 
@@ -12,8 +12,7 @@ use crate::declared::{body_variables, push_sections};
 use crate::locals::{push_of_body, push_others, push_parameters, push_result};
 use crate::parameters::{Parameter, body_parameters, local_parameters};
 use plc_text::{Items, NoMemory, Text, narrowed};
-use program_tables::{ProgramTables, RoutineId, method_at};
-use st_initial::Variable;
+use program_tables::{ProgramTables, RoutineId, Variable, method_at};
 use st_tree::{Note, Program, Section, TypeSpec};
 use std::alloc::Global;
 

@@ -5,6 +5,7 @@ mod declared;
 mod entry;
 mod locals;
 mod parameters;
+pub mod signature_tables;
 mod tables;
 
 pub use declared::push_sections;

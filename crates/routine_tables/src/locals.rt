@@ -2,11 +2,11 @@
 
 ghost use Rattle.std.specs.Prelude.{◌≡◌, ◌++◌, OnOk};
 ghost use Rattle.st_values.specs.View as view;
-ghost use Rattle.st_initial.specs.Variables.{variables_of};
+ghost use Rattle.program_tables.specs.st_initial.Variables.{variables_of};
 
 use crate::parameters::is_parameter;
 use plc_text::{NoMemory, Text};
-use st_initial::{Variable, kind_of};
+use program_tables::{Variable, kind_of};
 use st_tree::{Note, SectionSort, TypeSpec};
 
 /// Adds the result of a function or method, where it has one.

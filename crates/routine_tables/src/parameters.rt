@@ -3,11 +3,11 @@
 ghost use Rattle.std.specs.Prelude.{◌≡◌, ◌++◌, ◌∷◌, suc, List, IfOk};
 ghost use Rattle.st_values.specs.Program.{Variable as AVariable};
 ghost use Rattle.st_values.specs.View as view;
-ghost use Rattle.st_initial.specs.Variables.{variables_of};
+ghost use Rattle.program_tables.specs.st_initial.Variables.{variables_of};
 ghost use Rattle.routine_tables.specs.Parameters.{parameters_of};
 
 use plc_text::{Items, NoMemory};
-use st_initial::Variable;
+use program_tables::Variable;
 use st_tree::SectionSort;
 use std::alloc::Global;
 

@@ -2,8 +2,7 @@
 
 ghost use Rattle.std.specs.Prelude.{◌≡◌, IfOk};
 
-use plc_series::Series;
-use plc_text::{NoMemory, Text};
+use plc_text::{NoMemory, Series, Text};
 use std::alloc::Global;
 use value_trees::{Member, copy_value};
 

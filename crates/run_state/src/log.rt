@@ -7,8 +7,7 @@ ghost use Rattle.run_state.specs.Private.Log.{RegionPut};
 
 use crate::copies::copy_store;
 use crate::state::{Log, Undo};
-use plc_series::Series;
-use plc_text::NoMemory;
+use plc_text::{NoMemory, Series};
 use st_tree::Path;
 use std::alloc::Global;
 use value_trees::{Member, Value, copy_path, exchange_at};

@@ -5,8 +5,7 @@ ghost use Rattle.st_meaning.specs.State as run;
 ghost use Rattle.run_state.specs.State.{Agrees, Keeps, base_of, state_of};
 ghost use Rattle.run_state.specs.declared.state.Stop.TheVariants as stop;
 
-use plc_series::Series;
-use plc_text::{Fault, FaultKind, NoMemory};
+use plc_text::{Fault, FaultKind, NoMemory, Series};
 use st_tree::{Path, Steps};
 use std::alloc::Global;
 use value_trees::{Member, Value};

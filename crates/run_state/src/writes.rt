@@ -8,8 +8,7 @@ ghost use Rattle.run_state.specs.Private.Writes.{LocalPut, SlotPut};
 
 use crate::log::{put_region, remember, take_back};
 use crate::state::{Frame, RunState, Slot, Spot, Stop, fault};
-use plc_series::Series;
-use plc_text::{FaultKind, NoMemory};
+use plc_text::{FaultKind, NoMemory, Series};
 use st_tree::Step;
 use std::alloc::Global;
 use std::mem;

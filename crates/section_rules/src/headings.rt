@@ -5,12 +5,12 @@ ghost use Rattle.std.specs.List.{list_any};
 ghost use Rattle.std.specs.Option.{is_some};
 ghost use Rattle.st_rules.specs.Faults.{least};
 ghost use Rattle.st_rules.specs.Modifiers.{access_word};
-ghost use Rattle.name_spaces.specs.VariableRules as rules;
+ghost use Rattle.check_names.specs.name_spaces.VariableRules as rules;
 ghost use Rattle.section_rules.specs.Home.{home_of};
 ghost use Rattle.section_rules.specs.Headings.{access_misplaced, heading_faults};
 
 use crate::home::{Home, may_have, may_have_access};
-use name_spaces::{is_access_word, word_twice};
+use check_names::name_spaces::{is_access_word, word_twice};
 use plc_text::Code;
 use st_rules::{earlier, when};
 use st_tree::{Modifier, Section};

@@ -5,7 +5,7 @@ use Rattle.std.specs.Prelude.{◌&&◌, option_map, slice_get}
 use Rattle.plc_text.specs.Words.{same}
 use Rattle.st_values.specs.Program.{Program, class_at, class_variables}
 use Rattle.st_values.specs.Shape.{same_names}
-use Rattle.st_initial.specs.Variables.{fields_at}
+use Rattle.program_tables.specs.st_initial.Variables.{fields_at}
 use Rattle.shape_trees.specs.declared.shape.Shape.{Shape as CodeShape}
 use Rattle.shape_trees.specs.declared.shape.Shape.TheVariants as code
 use Rattle.shape_trees.specs.declared.shape.Field.{Field as CodeField}

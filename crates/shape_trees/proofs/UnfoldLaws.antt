@@ -16,9 +16,9 @@ use Rattle.st_tree.specs.declared.name.Name.{Name}
 use Rattle.st_tree.specs.declared.program.Note.{Note}
 use Rattle.st_tree.specs.declared.program.Program.{Program as CheckedProgram}
 use Rattle.st_rules.proofs.ListLaws.{drop-at, drop-end}
-use Rattle.st_initial.specs.declared.variables.Variable as held
-use Rattle.st_initial.specs.Members.{items_at}
-use Rattle.st_initial.specs.Variables.{variable_of, variables_of, fields_at, or_none}
+use Rattle.program_tables.specs.declared.st_initial.variables.Variable as held
+use Rattle.program_tables.specs.st_initial.Members.{items_at}
+use Rattle.program_tables.specs.st_initial.Variables.{variable_of, variables_of, fields_at, or_none}
 use Rattle.st_values.specs.Program.{Variable, TypeEntry, Class, Program, class_at, class_variables}
 use Rattle.st_values.specs.Shape.{Shape, Enumeration, Array, Structure, Instance, Fields, no_fields, field_then, extent, fields_by, values_of, simple_shape, shape_by, shape_within, same_names}
 use Rattle.st_values.specs.Shape as plain

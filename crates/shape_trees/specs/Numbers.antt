@@ -4,7 +4,7 @@ use Rattle.std.proofs.Common.{sym, ◌∙◌, ap}
 use Rattle.plc_text.specs.Words.{same}
 use Rattle.st_values.specs.Program.{Variable, Program, class_at, class_variables}
 use Rattle.st_values.specs.Shape.{same_names}
-use Rattle.st_initial.specs.Variables.{fields_at}
+use Rattle.program_tables.specs.st_initial.Variables.{fields_at}
 use Rattle.shape_trees.specs.declared.shape.Shape.TheOpen.{Shape-F, Field-F}
 use Rattle.shape_trees.specs.declared.shape.Shape.TheFolds.{fold-Shape, fold-Field, fold-roll-Shape, fold_out-Field}
 use Rattle.shape_trees.specs.declared.shape.Shape.{Shape as CodeShape}

@@ -5,7 +5,7 @@ use Rattle.st_types.specs.declared.elem.Elem.{Elem}
 use Rattle.st_values.specs.Program.{Variable}
 use Rattle.st_values.specs.Shape.{Shape, Elementary, Enumeration, Reference, Interface, Array, Structure, Instance, Fields, no_fields, field_then}
 use Rattle.st_values.specs.View.{texts}
-use Rattle.st_initial.specs.Variables.{variable_of}
+use Rattle.program_tables.specs.st_initial.Variables.{variable_of}
 use Rattle.shape_trees.specs.declared.shape.Shape.TheOpen.{Shape-F, Field-F}
 use Rattle.shape_trees.specs.declared.shape.Shape.TheFolds.{fold-Shape, fold-Field, fold-roll-Shape, fold_out-Field}
 use Rattle.shape_trees.specs.declared.shape.Shape.{Shape as CodeShape}

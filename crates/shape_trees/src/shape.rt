@@ -1,7 +1,7 @@
 //! Types of a program unfolded by names, with the variables that the text declares.
 
 use plc_text::{Boxed, Items, Text};
-use st_initial::Variable;
+use program_tables::Variable;
 use st_tree::Name;
 use st_types::Elem;
 

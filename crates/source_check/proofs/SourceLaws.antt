@@ -16,11 +16,11 @@ use Rattle.st_lexer.specs.Source as lexer
 use Rattle.st_parser_decl.specs.Law.{UnitNoneDeep}
 use Rattle.st_parser_decl.specs.Reading as reading
 use Rattle.st_prelude.specs.Prelude.{HasPrelude}
-use Rattle.st_accepted.specs.Accepted.{Accepted, IsUnit, RefusedFor, most_bytes, too_long, bad_place, no_unit, bad_unit}
+use Rattle.accepted_texts.specs.st_accepted.Accepted.{Accepted, IsUnit, RefusedFor, most_bytes, too_long, bad_place, no_unit, bad_unit}
 use Rattle.st_unit_rules.specs.Checked.{IsChecked}
 use Rattle.st_unit_rules.specs.RefusalLaws.{IsGood}
 use Rattle.st_unit_rules.specs.UnitRefusal.{UnitRefusal}
-use Rattle.unit_check.specs.Checking.{OnRefused}
+use Rattle.st_check_decl.specs.unit_check.Checking.{OnRefused}
 use Rattle.source_check.specs.Source.{IsRefusal}
 
 module _ (prelude text : List ℕ) where

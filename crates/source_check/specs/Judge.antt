@@ -5,7 +5,7 @@ use Rattle.st_tree.specs.declared.program.Program.{Program as CheckedProgram}
 use Rattle.st_prelude.specs.Blocks.{standard_blocks}
 use Rattle.st_values.specs.Program.{Program}
 use Rattle.st_values.specs.View.{program_of}
-use Rattle.st_accepted.specs.Accepted.{Accepted}
+use Rattle.accepted_texts.specs.st_accepted.Accepted.{Accepted}
 use Rattle.source_check.specs.Source.{IsRefusal}
 
 -- with this prelude the text is accepted, and its meaning is that of the program

@@ -9,9 +9,9 @@ use Rattle.st_values.specs.Program.{Program}
 use Rattle.st_values.specs.View.{program_of}
 use Rattle.st_change.specs.Laws.{Judges}
 use Rattle.region_instances.specs.Instances.{RegionsUnfold}
-use Rattle.st_accepted.proofs.AcceptedLaws.{accepted_laws}
+use Rattle.accepted_texts.proofs.st_accepted.AcceptedLaws.{accepted_laws}
 use Rattle.source_check.specs.Source.{IsRefusal}
-use Rattle.unfolding_laws.proofs.UnfoldingLaws.{unfolding_laws}
+use Rattle.accepted_texts.proofs.unfolding_laws.UnfoldingLaws.{unfolding_laws}
 use Rattle.source_check.specs.Judge.{IsAcceptedAs}
 
 -- ---- refusals with the same parts

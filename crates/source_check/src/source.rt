@@ -4,17 +4,17 @@ ghost use Rattle.std.specs.Prelude.{◌≤◌, length, map, IfErr, IfOk};
 ghost use Rattle.st_tree.specs.Token.{Tokens};
 ghost use Rattle.st_lexer.specs.Token.{token_view};
 ghost use Rattle.st_prelude.specs.Blocks.{standard_blocks};
-ghost use Rattle.st_accepted.specs.Accepted.{Accepted, IsUnit, most_bytes};
-ghost use Rattle.unit_check.specs.Checking.{OnRefused};
+ghost use Rattle.accepted_texts.specs.st_accepted.Accepted.{Accepted, IsUnit, most_bytes};
+ghost use Rattle.st_check_decl.specs.unit_check.Checking.{OnRefused};
 ghost use Rattle.source_check.specs.Source.{IsRefusal};
 
 use plc_text::Denied;
+use st_check_decl::check;
 use st_lexer::{Token, tokens};
 use st_parser_decl::parse;
 use st_prelude::{give_back, with_prelude};
 use st_tree::{Program, Unit};
 use std::alloc::Global;
-use unit_check::check;
 
 /// The unit that the tokens of a source are, behind the declarations of the prelude.
 fn whole_of(alloc: Global, text: &str, found: &[Token<'_>]) -> Result<Unit, Denied>

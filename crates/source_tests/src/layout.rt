@@ -8,9 +8,9 @@ ghost use Rattle.std.specs.Prelude.{◌≡◌};
 
 use console_command::Checker;
 use footprints::{footprint, writes};
-use initial_images::initial_images;
 use mem_image::{At, Regions};
 use mem_layout::Layout;
+use mem_layout::initial_images::initial_images;
 use plc_text::{NoMemory, Text, number, split_field};
 use reference_journal::give_back;
 use st_tree::{Path, Program, Step, Steps};

@@ -2,9 +2,8 @@
 //! ask what the command says to the text: so many bytes go at once, and the call of the number behind them fails, none where it is 0. `copy
 //! LIMIT ROOM READS FAILING WRITES FAILING` reads the text up to the limit and writes it into so much room.
 
-use check_console::check;
+use console::{check, play};
 use console_command::Checker;
-use play_console::play;
 use plc_io::{MemSink, MemSource, ReadError, WriteFault, read_all, write_all};
 use plc_text::{NoMemory, Text, number, split_field};
 use std::alloc::Global;

@@ -7,8 +7,8 @@ use Rattle.cycle_journal.specs.declared.entry.Answer.TheVariants as answer
 use Rattle.cycle_journal.specs.declared.play.Play.{Play}
 use Rattle.st_values.specs.Program.{Program}
 use Rattle.st_meaning.specs.Cycle.{cycle}
-use Rattle.st_frame.specs.Footprint.{IsFootprint}
-use Rattle.st_frame.proofs.Footprints.{footprint_laws}
+use Rattle.st_meaning.specs.st_frame.Footprint.{IsFootprint}
+use Rattle.st_meaning.proofs.st_frame.Footprints.{footprint_laws}
 use Rattle.st_change.specs.Hook.{ran, stopped}
 use Rattle.st_change.specs.Change.{change}
 use Rattle.st_change.specs.OneThread.{Controller, task_named, loaded, cycle_answer, after_cycle, hook_refusal, One, cycle_without_task, cycle_held, cycle_run, reset_without_task, reset_done, change_loaded, change_refused, change_stopped, change_without_memory}

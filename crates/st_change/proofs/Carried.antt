@@ -11,8 +11,8 @@ use Rattle.st_types.specs.declared.st_type.StType.TheVariants as type
 use Rattle.st_values.specs.Program.{Region, Program}
 use Rattle.st_values.specs.Value.{Path, Value, number, reference, array, structure, instance, Values, no_values, value_then, Members, no_members, member_then, Store, names_of, ◌>>=◌, element, member, place_of_index}
 use Rattle.st_values.specs.Shape.{Shape, Elementary, Enumeration, Reference, Interface, Array, Structure, Instance, Fields, no_fields, field_then, same_elem, same_names, region_shape, path_shape}
-use Rattle.st_frame.specs.Good.{Names, Held, Fit, FitAll, FitEach, GoodAt, Good}
-use Rattle.st_frame.proofs.Values.{element_fits}
+use Rattle.st_meaning.specs.st_frame.Good.{Names, Held, Fit, FitAll, FitEach, GoodAt, Good}
+use Rattle.st_meaning.proofs.st_frame.Values.{element_fits}
 use Rattle.st_change.specs.From.{Pairs, old_name, structure_pairs, class_pairs, same_flag, old_region, new_path}
 use Rattle.st_change.specs.Carry.{Old, old_element, old_field, field_before, variable_before, before_by, elementary_before, enumerator_before, shape_conforms, checked, relocated, reference_before, stays, carry, carry_elements, carry_members}
 use Rattle.st_change.specs.Counterpart.{kept}

@@ -13,7 +13,7 @@ use Rattle.st_values.specs.Value.{Value, Store, Members, no_members, member_then
 use Rattle.st_values.specs.Shape.{Shape, Elementary, Enumeration, Reference, Interface, Array, Structure, Instance, Fields, no_fields, field_then, same_shape, same_fields, region_shape, has_instance}
 use Rattle.st_values.specs.Initial.{initial_store}
 use Rattle.st_meaning.specs.Cycle.{all_ticks, cycle}
-use Rattle.st_frame.specs.Good.{Fit, Good, region_names}
+use Rattle.st_meaning.specs.st_frame.Good.{Fit, Good, region_names}
 use Rattle.st_change.specs.From.{Pairs, old_name, structure_pairs, class_pairs, region_name, region_pairs, old_region, new_region}
 use Rattle.st_change.specs.Counterpart.{has_fresh, a_field_is_fresh, is_fresh, equal_shapes, keeps, kept, was_kept_as, was_kept}
 use Rattle.st_change.specs.Instances.{Member, members_first, owner_first, walk_region, of_regions}

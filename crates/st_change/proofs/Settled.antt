@@ -11,7 +11,7 @@ use Rattle.st_tree.specs.declared.path.Step.TheVariants as step
 use Rattle.st_values.specs.Program.{Variable, Program}
 use Rattle.st_values.specs.Value.{Path, Value, number, reference, array, structure, instance, Values, no_values, value_then, Members, no_members, member_then, natural, place_of_index, element}
 use Rattle.st_values.specs.Shape.{Shape, Elementary, Enumeration, Reference, Interface, Array, Structure, Instance, Fields, no_fields, field_then, field, element_shape, same_names, shape_part, shape_at, region_shape, path_shape}
-use Rattle.st_frame.specs.Good.{Held, Fit, FitAll, FitEach}
+use Rattle.st_meaning.specs.st_frame.Good.{Held, Fit, FitAll, FitEach}
 use Rattle.st_change.specs.From.{Pairs, old_name, new_name, structure_pairs, class_pairs, Way, by_name, by_index, field_name, field_named, part_by, way_of, ways_of, steps_of, region_name, region_pairs, new_way, new_ways, new_region, new_path}
 use Rattle.st_change.specs.Carry.{Old, old_element, old_field, field_before, variable_before, before_by, shape_conforms, checked, relocated, stays, carry, carry_elements, carry_members}
 use Rattle.st_change.specs.CarryLaws.{Settled, FieldsSettled, Settles, CarryLaws}

@@ -16,12 +16,12 @@ use Rattle.st_meaning.specs.Operation.{truth}
 use Rattle.st_meaning.specs.Call.{given_value}
 use Rattle.st_meaning.specs.Enter.{most_calls}
 use Rattle.st_meaning.specs.Cycle.{all_ticks}
-use Rattle.st_frame.specs.Footprint.{Has}
-use Rattle.st_frame.specs.FrameLaws.{FlagFits}
-use Rattle.st_frame.specs.Good.{Names, Good}
-use Rattle.st_frame.specs.Promise.{Each, ProgramIs}
-use Rattle.st_frame.proofs.Frame.{frame_laws}
-use Rattle.st_frame.proofs.Values.{initial_good}
+use Rattle.st_meaning.specs.st_frame.Footprint.{Has}
+use Rattle.st_meaning.specs.st_frame.FrameLaws.{FlagFits}
+use Rattle.st_meaning.specs.st_frame.Good.{Names, Good}
+use Rattle.st_meaning.specs.st_frame.Promise.{Each, ProgramIs}
+use Rattle.st_meaning.proofs.st_frame.Frame.{frame_laws}
+use Rattle.st_meaning.proofs.st_frame.Values.{initial_good}
 use Rattle.st_change.specs.Instances.{Member, members_first, owner_first}
 use Rattle.st_change.specs.Hook.{Hook, When, at_init, at_exit, at_reinit, hook_name, declares_hook, hooks_along, init_hooks, exit_hooks, first_only, reinit_hooks, init_flags, Ran, ran, stopped, go_on, routine_of, given_flags, hook_run, class_name, hooked, run_hook, run_hooks}
 use Rattle.st_change.specs.Hook as hook

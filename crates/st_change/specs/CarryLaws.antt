@@ -3,7 +3,7 @@ use Rattle.std.specs.Prelude.{◌≡◌, ℕ, Bool, false, List, Some, None}
 use Rattle.st_values.specs.Program.{Program}
 use Rattle.st_values.specs.Value.{Value, Store}
 use Rattle.st_values.specs.Shape.{Shape, Array, Structure, Instance, Fields, no_fields, field_then, region_shape}
-use Rattle.st_frame.specs.Good.{Fit, Good}
+use Rattle.st_meaning.specs.st_frame.Good.{Fit, Good}
 use Rattle.st_change.specs.From.{Pairs, old_name, structure_pairs, class_pairs, region_name, region_pairs}
 use Rattle.st_change.specs.Carry.{Old, carry}
 use Rattle.st_change.specs.Change.{carry_store}

@@ -9,3 +9,4 @@ pub mod Laws
 pub mod CarryLaws
 pub mod StoreLaws
 pub mod SameLaws
+pub mod carry_places

@@ -16,7 +16,7 @@ use Rattle.st_tree.specs.declared.program.TaskDecl.{TaskDecl}
 use Rattle.st_values.specs.Program.{Program}
 use Rattle.st_values.specs.Value.{Store}
 use Rattle.st_meaning.specs.Cycle.{cycle}
-use Rattle.st_frame.specs.Footprint.{IsFootprint}
+use Rattle.st_meaning.specs.st_frame.Footprint.{IsFootprint}
 use Rattle.st_change.specs.Hook.{ran, stopped}
 use Rattle.st_change.specs.Change.{start, change}
 

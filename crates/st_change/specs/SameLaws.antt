@@ -9,7 +9,7 @@ use Rattle.st_values.specs.Value.{Store}
 use Rattle.st_values.specs.Shape.{Shape, region_shape}
 use Rattle.st_values.specs.Initial.{initial_store}
 use Rattle.st_meaning.specs.Cycle.{all_ticks}
-use Rattle.st_frame.specs.Good.{Good}
+use Rattle.st_meaning.specs.st_frame.Good.{Good}
 use Rattle.st_change.specs.Counterpart.{kept}
 use Rattle.st_change.specs.Hook.{ran}
 use Rattle.st_change.specs.Change.{leaving, coming, change}

@@ -7,9 +7,9 @@ use Rattle.cycle_journal.specs.declared.play.Play.TheVariants as play
 use Rattle.st_values.specs.Program.{Variable, to_local, Parameter, Routine, Program, own_method}
 use Rattle.st_values.specs.Value.{Store}
 use Rattle.st_meaning.specs.Call.{is_in_out}
-use Rattle.st_frame.specs.Good.{Good}
-use Rattle.st_frame.specs.Promise.{Each, IsBool, RoutineIs, ProgramIs}
-use Rattle.st_frame.specs.FrameLaws.{last_moment}
+use Rattle.st_meaning.specs.st_frame.Good.{Good}
+use Rattle.st_meaning.specs.st_frame.Promise.{Each, IsBool, RoutineIs, ProgramIs}
+use Rattle.st_meaning.specs.st_frame.FrameLaws.{last_moment}
 use Rattle.st_change.specs.Hook.{When, hook_name, ran}
 use Rattle.st_change.specs.Change as change
 use Rattle.st_change.specs.OneThread.{Controller, One}

@@ -16,15 +16,15 @@ use Rattle.st_rules.specs.Scope.{Scope}
 use Rattle.st_rules.specs.Statements.{condition_faults, labels_faults, typed_label, statement_faults, statements_faults, branches_faults, cases_faults, typed_statement, typed_statements, typed_branches, typed_cases}
 use Rattle.st_rules.proofs.FaultLaws.{earlier-none}
 use Rattle.st_rules.proofs.ListLaws.{drop-at, drop-end}
-use Rattle.st_body_parts.specs.declared.found.CheckedStatement.{CheckedStatement}
-use Rattle.st_body_parts.specs.declared.found.CheckedStatements.{CheckedStatements}
-use Rattle.st_body_parts.specs.declared.found.CheckedBranch.{CheckedBranch}
-use Rattle.st_body_parts.specs.declared.found.CheckedBranches.{CheckedBranches}
-use Rattle.st_body_parts.specs.declared.found.CheckedCase.{CheckedCase}
-use Rattle.st_body_parts.specs.declared.found.CheckedCases.{CheckedCases}
-use Rattle.st_body_parts.specs.Found.{StatementFinds, StatementsFind, BranchFinds, BranchesFind, CaseFinds, CasesFind}
+use Rattle.st_check_body.specs.declared.st_body_parts.found.CheckedStatement.{CheckedStatement}
+use Rattle.st_check_body.specs.declared.st_body_parts.found.CheckedStatements.{CheckedStatements}
+use Rattle.st_check_body.specs.declared.st_body_parts.found.CheckedBranch.{CheckedBranch}
+use Rattle.st_check_body.specs.declared.st_body_parts.found.CheckedBranches.{CheckedBranches}
+use Rattle.st_check_body.specs.declared.st_body_parts.found.CheckedCase.{CheckedCase}
+use Rattle.st_check_body.specs.declared.st_body_parts.found.CheckedCases.{CheckedCases}
+use Rattle.st_check_body.specs.st_body_parts.Found.{StatementFinds, StatementsFind, BranchFinds, BranchesFind, CaseFinds, CasesFind}
 use Rattle.st_check_body.specs.Private.Lists.{StatementsLeft, statements_onto, BranchesLeft, branches_onto, CasesLeft, cases_onto}
-use Rattle.st_body_parts.specs.Nodes.{NoStatement, AddsStatement, NoBranch, AddsBranch, NoCase, AddsCase}
+use Rattle.st_check_body.specs.st_body_parts.Nodes.{NoStatement, AddsStatement, NoBranch, AddsBranch, NoCase, AddsCase}
 use Rattle.st_check_body.proofs.Parts.{more_broken, none_before, none_behind}
 
 -- ---- statements

@@ -22,19 +22,19 @@ use Rattle.st_rules.specs.Scope.{Scope, sought}
 use Rattle.st_rules.specs.Literals.{asked_of}
 use Rattle.st_rules.specs.Expressions.{note, meant_target, type_of, typed}
 use Rattle.st_rules.specs.Statements.{condition_faults, case_selector_faults, labels_faults, for_faults, control_type, control_asked, statements_faults, branches_faults, cases_faults, otherwise_faults, typed_statements, typed_branches, typed_cases}
-use Rattle.st_body_parts.specs.Checked.{Checked}
-use Rattle.st_body_parts.specs.FoundExpression.{Finds}
-use Rattle.st_body_parts.specs.declared.found.CheckedStatement.{CheckedStatement}
-use Rattle.st_body_parts.specs.declared.found.CheckedStatements.{CheckedStatements}
-use Rattle.st_body_parts.specs.declared.found.CheckedBranch.{CheckedBranch}
-use Rattle.st_body_parts.specs.declared.found.CheckedBranches.{CheckedBranches}
-use Rattle.st_body_parts.specs.declared.found.CheckedCase.{CheckedCase}
-use Rattle.st_body_parts.specs.declared.found.CheckedCases.{CheckedCases}
-use Rattle.st_body_parts.specs.declared.found.CheckedControl.{CheckedControl}
-use Rattle.st_body_parts.specs.declared.found.CheckedLabels.{CheckedLabels}
-use Rattle.st_body_parts.specs.declared.found.CheckedOtherwise.{CheckedOtherwise}
-use Rattle.st_body_parts.specs.Found.{ControlFinds, StatementFinds, StatementsFind, BranchFinds, BranchesFind, CaseFinds, CasesFind, OtherwiseFinds, LabelsFind}
-use Rattle.st_body_parts.specs.Nodes.{IsIf, IsCase, IsFor, IsWhile, IsRepeat, IsBranch, IsCaseBranch, IsElse}
+use Rattle.st_check_body.specs.st_body_parts.Checked.{Checked}
+use Rattle.st_check_body.specs.st_body_parts.FoundExpression.{Finds}
+use Rattle.st_check_body.specs.declared.st_body_parts.found.CheckedStatement.{CheckedStatement}
+use Rattle.st_check_body.specs.declared.st_body_parts.found.CheckedStatements.{CheckedStatements}
+use Rattle.st_check_body.specs.declared.st_body_parts.found.CheckedBranch.{CheckedBranch}
+use Rattle.st_check_body.specs.declared.st_body_parts.found.CheckedBranches.{CheckedBranches}
+use Rattle.st_check_body.specs.declared.st_body_parts.found.CheckedCase.{CheckedCase}
+use Rattle.st_check_body.specs.declared.st_body_parts.found.CheckedCases.{CheckedCases}
+use Rattle.st_check_body.specs.declared.st_body_parts.found.CheckedControl.{CheckedControl}
+use Rattle.st_check_body.specs.declared.st_body_parts.found.CheckedLabels.{CheckedLabels}
+use Rattle.st_check_body.specs.declared.st_body_parts.found.CheckedOtherwise.{CheckedOtherwise}
+use Rattle.st_check_body.specs.st_body_parts.Found.{ControlFinds, StatementFinds, StatementsFind, BranchFinds, BranchesFind, CaseFinds, CasesFind, OtherwiseFinds, LabelsFind}
+use Rattle.st_check_body.specs.st_body_parts.Nodes.{IsIf, IsCase, IsFor, IsWhile, IsRepeat, IsBranch, IsCaseBranch, IsElse}
 use Rattle.st_check_body.proofs.Parts.{both, joined, none_before, none_behind}
 
 pub statement_seen : (c : CheckedStatement) (s : Scope) (in_loop : Bool) (x : Stmt ℕ) (y : Statement ℕ) → statement_of x ≡ y → StatementFinds c s in_loop y → StatementFinds c s in_loop (statement_of x)

@@ -10,10 +10,10 @@ use Rattle.st_rules.specs.Kinds.{is_arithmetic, is_elementary, is_number}
 use Rattle.st_rules.specs.Literals.{asked_of, number_asked}
 use Rattle.st_rules.specs.Scope.{Scope}
 use Rattle.st_rules.specs.Expressions.{is_untyped, front_asked, asked_behind, type_of}
-use Rattle.st_expr_parts.specs.declared.found.Checked.{Checked}
-use Rattle.st_expr_parts.specs.declared.rows.Ahead.{Ahead}
-use Rattle.st_expr_parts.specs.Found.{Checks}
-use Rattle.st_expr_parts.specs.Rows.{EndsFront, Looks}
+use Rattle.check_nodes.specs.declared.found.Checked.{Checked}
+use Rattle.check_nodes.specs.declared.rows.Ahead.{Ahead}
+use Rattle.check_nodes.specs.Found.{Checks}
+use Rattle.check_nodes.specs.Rows.{EndsFront, Looks}
 use Rattle.st_check_expr.specs.Private.Rows.{Keeps, GoesOn, EndsAt, LooksAhead, ahead_rest, first_typed}
 use Rattle.st_check_expr.proofs.Parts.{both}
 use Rattle.st_check_expr.proofs.RowSteps.{keeps_nothing}

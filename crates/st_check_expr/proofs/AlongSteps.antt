@@ -14,17 +14,17 @@ use Rattle.st_rules.specs.Places as places
 use Rattle.st_rules.specs.Places.{is_last, root_line, root_faults, root_standing, selected, selector_faults, whole_faults, place_type}
 use Rattle.st_rules.specs.Expressions.{note, whole_target, reference_to, reference_to_no_instance, along_faults, typed_root, typed_along, selector_index_faults, typed_selector, standing_note}
 use Rattle.st_rules.proofs.FaultLaws.{earlier-none}
-use Rattle.st_expr_parts.specs.StandingPlace.{Standing}
-use Rattle.st_expr_parts.specs.Standing.{standing}
-use Rattle.st_expr_parts.specs.declared.along.Along.{Along}
-use Rattle.st_expr_parts.specs.declared.along.CheckedSelector.{CheckedSelector}
-use Rattle.st_expr_parts.specs.declared.found.Checked.{Checked}
-use Rattle.st_expr_parts.specs.declared.lists.Indices.{Indices}
-use Rattle.st_expr_parts.specs.declared.wholes.CheckedPlace.{CheckedPlace}
-use Rattle.st_expr_parts.specs.Along.{Starts, Extends, IsField, IsIndex, IsTarget}
-use Rattle.st_expr_parts.specs.Found.{Checks}
-use Rattle.st_expr_parts.specs.Wholes.{root_part, Wholes, Refers}
-use Rattle.st_expr_parts.specs.Wholes as wholes
+use Rattle.check_nodes.specs.StandingPlace.{Standing}
+use Rattle.check_nodes.specs.Standing.{standing}
+use Rattle.check_nodes.specs.declared.along.Along.{Along}
+use Rattle.check_nodes.specs.declared.along.CheckedSelector.{CheckedSelector}
+use Rattle.check_nodes.specs.declared.found.Checked.{Checked}
+use Rattle.check_nodes.specs.declared.lists.Indices.{Indices}
+use Rattle.check_nodes.specs.declared.wholes.CheckedPlace.{CheckedPlace}
+use Rattle.check_nodes.specs.Along.{Starts, Extends, IsField, IsIndex, IsTarget}
+use Rattle.check_nodes.specs.Found.{Checks}
+use Rattle.check_nodes.specs.Wholes.{root_part, Wholes, Refers}
+use Rattle.check_nodes.specs.Wholes as wholes
 use Rattle.st_check_expr.specs.Walk.{PlaceFinds}
 use Rattle.st_check_expr.specs.Private.Along.{SelectorFinds, AlongGoes, AlongFinds, along_rest, selectors_onto}
 use Rattle.st_check_expr.specs.Private.Lists.{IndicesFind}

@@ -21,28 +21,28 @@ use Rattle.st_rules.specs.Places.{root_line, root_standing, selected, selector_f
 use Rattle.st_rules.specs.Calls.{Matched, callee, heads, is_on_super, asked_by}
 use Rattle.st_rules.specs.Scope.{Scope}
 use Rattle.st_rules.specs.Expressions.{line_of, is_untyped, front_asked, asked_behind, typed_root}
-use Rattle.st_expr_parts.specs.StandingPlace.{Standing}
-use Rattle.st_expr_parts.specs.Standing.{standing}
-use Rattle.st_expr_parts.specs.declared.along.Along.{Along}
-use Rattle.st_expr_parts.specs.declared.along.CheckedSelector.{CheckedSelector}
-use Rattle.st_expr_parts.specs.declared.calls.Prepared.{Prepared}
-use Rattle.st_expr_parts.specs.declared.found.Checked.{Checked}
-use Rattle.st_expr_parts.specs.declared.lists.Arguments.{Arguments as SoFar}
-use Rattle.st_expr_parts.specs.declared.lists.CheckedArgument.{CheckedArgument}
-use Rattle.st_expr_parts.specs.declared.lists.Indices.{Indices}
-use Rattle.st_expr_parts.specs.declared.rows.Ahead.{Ahead}
-use Rattle.st_expr_parts.specs.declared.rows.Row.{Row}
-use Rattle.st_expr_parts.specs.declared.slots.Slot.{Slot}
-use Rattle.st_expr_parts.specs.declared.wholes.CheckedPlace.{CheckedPlace}
-use Rattle.st_expr_parts.specs.Along.{IsField, IsIndex, IsTarget}
-use Rattle.st_expr_parts.specs.Calls.{IsPrepared, Finishes}
-use Rattle.st_expr_parts.specs.Found.{Checks}
-use Rattle.st_expr_parts.specs.Given.{GivesPositional, GivesInput, GivesOutput}
-use Rattle.st_expr_parts.specs.Rows.{Begins, Closes, Looks}
-use Rattle.st_expr_parts.specs.Slots.{slots}
-use Rattle.st_expr_parts.specs.Wholes.{root_part, Wholes, Refers}
-use Rattle.st_expr_parts.specs.Wholes as wholes
-use Rattle.st_expr_parts.specs.Wraps.{Encloses, Denies}
+use Rattle.check_nodes.specs.StandingPlace.{Standing}
+use Rattle.check_nodes.specs.Standing.{standing}
+use Rattle.check_nodes.specs.declared.along.Along.{Along}
+use Rattle.check_nodes.specs.declared.along.CheckedSelector.{CheckedSelector}
+use Rattle.check_nodes.specs.declared.calls.Prepared.{Prepared}
+use Rattle.check_nodes.specs.declared.found.Checked.{Checked}
+use Rattle.check_nodes.specs.declared.lists.Arguments.{Arguments as SoFar}
+use Rattle.check_nodes.specs.declared.lists.CheckedArgument.{CheckedArgument}
+use Rattle.check_nodes.specs.declared.lists.Indices.{Indices}
+use Rattle.check_nodes.specs.declared.rows.Ahead.{Ahead}
+use Rattle.check_nodes.specs.declared.rows.Row.{Row}
+use Rattle.check_nodes.specs.declared.slots.Slot.{Slot}
+use Rattle.check_nodes.specs.declared.wholes.CheckedPlace.{CheckedPlace}
+use Rattle.check_nodes.specs.Along.{IsField, IsIndex, IsTarget}
+use Rattle.check_nodes.specs.Calls.{IsPrepared, Finishes}
+use Rattle.check_nodes.specs.Found.{Checks}
+use Rattle.check_nodes.specs.Given.{GivesPositional, GivesInput, GivesOutput}
+use Rattle.check_nodes.specs.Rows.{Begins, Closes, Looks}
+use Rattle.check_nodes.specs.Slots.{slots}
+use Rattle.check_nodes.specs.Wholes.{root_part, Wholes, Refers}
+use Rattle.check_nodes.specs.Wholes as wholes
+use Rattle.check_nodes.specs.Wraps.{Encloses, Denies}
 use Rattle.st_check_expr.specs.Walk.{PlaceFinds, ArgumentsFind}
 use Rattle.st_check_expr.specs.Private.Along.{AlongFinds, SelectorFinds}
 use Rattle.st_check_expr.specs.Private.Lists.{IndicesFind, ArgumentFinds}

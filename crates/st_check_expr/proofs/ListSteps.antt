@@ -13,14 +13,14 @@ use Rattle.st_rules.specs.Places.{root_faults, root_line, root_standing, whole_f
 use Rattle.st_rules.specs.Calls.{Matched, first_match, later_matches, asked_by, matched_type, output_unsuited}
 use Rattle.st_rules.specs.Expressions.{note, matched_target, line_of, index_unsuited, index_faults, type_of, faults, given_unsuited, along_faults, argument_faults, typed, typed_indices, typed_arguments}
 use Rattle.st_rules.proofs.FaultLaws.{earlier-none, least-append, earlier-assoc}
-use Rattle.st_expr_parts.specs.declared.found.Checked.{Checked}
-use Rattle.st_expr_parts.specs.declared.lists.Indices.{Indices}
-use Rattle.st_expr_parts.specs.declared.lists.Arguments.{Arguments as SoFar}
-use Rattle.st_expr_parts.specs.declared.lists.CheckedArgument.{CheckedArgument}
-use Rattle.st_expr_parts.specs.declared.wholes.CheckedPlace.{CheckedPlace}
-use Rattle.st_expr_parts.specs.Found.{Checks}
-use Rattle.st_expr_parts.specs.Given.{GivesPositional, GivesInput, GivesOutput}
-use Rattle.st_expr_parts.specs.Lists.{NoIndex, NoArgument, AddsIndex, AddsArgument}
+use Rattle.check_nodes.specs.declared.found.Checked.{Checked}
+use Rattle.check_nodes.specs.declared.lists.Indices.{Indices}
+use Rattle.check_nodes.specs.declared.lists.Arguments.{Arguments as SoFar}
+use Rattle.check_nodes.specs.declared.lists.CheckedArgument.{CheckedArgument}
+use Rattle.check_nodes.specs.declared.wholes.CheckedPlace.{CheckedPlace}
+use Rattle.check_nodes.specs.Found.{Checks}
+use Rattle.check_nodes.specs.Given.{GivesPositional, GivesInput, GivesOutput}
+use Rattle.check_nodes.specs.Lists.{NoIndex, NoArgument, AddsIndex, AddsArgument}
 use Rattle.st_check_expr.specs.Walk.{PlaceFinds, ArgumentsFind}
 use Rattle.st_check_expr.specs.Private.Lists.{IndicesFind, ArgumentFinds, index_rest, argument_rest, one_argument, one_typed, expressions_onto, arguments_onto}
 use Rattle.st_check_expr.proofs.Parts.{both, three_parts, joined}

@@ -15,15 +15,15 @@ use Rattle.st_rules.specs.Places.{is_last}
 use Rattle.st_rules.specs.Calls.{Matched, first_match}
 use Rattle.st_rules.specs.Expressions.{line_of}
 use Rattle.st_rules.proofs.ListLaws.{drop-at, drop-end}
-use Rattle.st_expr_parts.specs.declared.along.Along.{Along}
-use Rattle.st_expr_parts.specs.declared.found.Checked.{Checked}
-use Rattle.st_expr_parts.specs.declared.lists.Indices.{Indices}
-use Rattle.st_expr_parts.specs.declared.lists.Arguments.{Arguments as SoFar}
-use Rattle.st_expr_parts.specs.declared.lists.CheckedArgument.{CheckedArgument}
-use Rattle.st_expr_parts.specs.Found.{Checks}
-use Rattle.st_expr_parts.specs.declared.rows.Ahead.{Ahead}
-use Rattle.st_expr_parts.specs.Rows.{Looks}
-use Rattle.st_expr_parts.specs.Lists.{AddsIndex, AddsArgument}
+use Rattle.check_nodes.specs.declared.along.Along.{Along}
+use Rattle.check_nodes.specs.declared.found.Checked.{Checked}
+use Rattle.check_nodes.specs.declared.lists.Indices.{Indices}
+use Rattle.check_nodes.specs.declared.lists.Arguments.{Arguments as SoFar}
+use Rattle.check_nodes.specs.declared.lists.CheckedArgument.{CheckedArgument}
+use Rattle.check_nodes.specs.Found.{Checks}
+use Rattle.check_nodes.specs.declared.rows.Ahead.{Ahead}
+use Rattle.check_nodes.specs.Rows.{Looks}
+use Rattle.check_nodes.specs.Lists.{AddsIndex, AddsArgument}
 use Rattle.st_check_expr.specs.declared.walk.RowSoFar.{RowSoFar}
 use Rattle.st_check_expr.specs.Private.Along.{AlongGoes, along_rest}
 use Rattle.st_check_expr.specs.Private.Lists.{ArgumentFinds, index_rest, argument_rest}

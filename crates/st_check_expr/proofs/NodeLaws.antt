@@ -14,14 +14,14 @@ use Rattle.st_rules.specs.Scope.{Scope}
 use Rattle.st_rules.specs.Places.{root_line, root_standing, too_many_selectors}
 use Rattle.st_rules.specs.Calls.{Matched, callee, call_type, call_without_result, callee_faults, call_matches, heads, is_on_super, first_match, later_matches, asked_by, matched_type}
 use Rattle.st_rules.specs.Expressions.{note, is_int, line_of, operand_unsuited, type_of, faults, called_root_faults, along_faults, argument_faults, given_unsuited, matched_target, typed_root, typed_along, typed_arguments}
-use Rattle.st_expr_parts.specs.declared.calls.Prepared.{Prepared}
-use Rattle.st_expr_parts.specs.declared.found.Checked.{Checked}
-use Rattle.st_expr_parts.specs.declared.lists.Arguments.{Arguments as SoFar}
-use Rattle.st_expr_parts.specs.declared.wholes.CheckedPlace.{CheckedPlace}
-use Rattle.st_expr_parts.specs.Calls.{IsPrepared, Finishes}
-use Rattle.st_expr_parts.specs.Found.{Checks}
-use Rattle.st_expr_parts.specs.Wraps.{Encloses, Denies, Negates}
-use Rattle.st_expr_parts.specs.Slots.{slots, used}
+use Rattle.check_nodes.specs.declared.calls.Prepared.{Prepared}
+use Rattle.check_nodes.specs.declared.found.Checked.{Checked}
+use Rattle.check_nodes.specs.declared.lists.Arguments.{Arguments as SoFar}
+use Rattle.check_nodes.specs.declared.wholes.CheckedPlace.{CheckedPlace}
+use Rattle.check_nodes.specs.Calls.{IsPrepared, Finishes}
+use Rattle.check_nodes.specs.Found.{Checks}
+use Rattle.check_nodes.specs.Wraps.{Encloses, Denies, Negates}
+use Rattle.check_nodes.specs.Slots.{slots, used}
 use Rattle.st_check_expr.specs.Walk.{PlaceFinds}
 use Rattle.st_check_expr.specs.Walk.{ArgumentsFind}
 use Rattle.st_check_expr.specs.Private.Lists.{one_argument, one_typed}

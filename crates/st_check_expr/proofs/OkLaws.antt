@@ -6,8 +6,8 @@ use Rattle.st_tree.specs.declared.expression.Expr.{Expr}
 use Rattle.st_tree.specs.Expression.{Expression, expression_of}
 use Rattle.st_rules.specs.declared.asked.Asked.{Asked}
 use Rattle.st_rules.specs.Scope.{Scope}
-use Rattle.st_expr_parts.specs.declared.found.Checked.{Checked}
-use Rattle.st_expr_parts.specs.Found.{Checks}
+use Rattle.check_nodes.specs.declared.found.Checked.{Checked}
+use Rattle.check_nodes.specs.Found.{Checks}
 
 pub when_ok : {A E : Type 0} {P Q : A → Type 0} (r : Result A E) → IfOk r P → ((x : A) → P x → Q x) → IfOk r Q
 when_ok (Ok x) h f = f x h

@@ -14,10 +14,10 @@ use Rattle.st_rules.specs.Kinds.{is_arithmetic, operation_type}
 use Rattle.st_rules.specs.Scope.{Scope}
 use Rattle.st_rules.specs.Expressions.{note, is_untyped, front_asked, asked_behind, operand_asked, line_of, row_unsuited, type_of, faults, typed, row_type, row_faults, typed_row}
 use Rattle.st_rules.proofs.FaultLaws.{least-append, earlier-none}
-use Rattle.st_expr_parts.specs.declared.found.Checked.{Checked}
-use Rattle.st_expr_parts.specs.declared.rows.Row.{Row}
-use Rattle.st_expr_parts.specs.Found.{Checks}
-use Rattle.st_expr_parts.specs.Rows.{Begins, Joins, Closes}
+use Rattle.check_nodes.specs.declared.found.Checked.{Checked}
+use Rattle.check_nodes.specs.declared.rows.Row.{Row}
+use Rattle.check_nodes.specs.Found.{Checks}
+use Rattle.check_nodes.specs.Rows.{Begins, Joins, Closes}
 use Rattle.st_check_expr.specs.Private.Rows.{Keeps, Whole, row_rest, tails_onto, first_typed}
 use Rattle.st_check_expr.proofs.Parts.{three_parts}
 

@@ -18,14 +18,14 @@ use Rattle.st_rules.specs.Places as places
 use Rattle.st_rules.specs.Scope.{Scope}
 use Rattle.st_rules.specs.Literals.{number_asked}
 use Rattle.st_rules.specs.Expressions.{is_int, is_untyped, line_of, front_asked, asked_behind, operand_asked}
-use Rattle.st_expr_parts.specs.declared.along.CheckedSelector.{CheckedSelector}
-use Rattle.st_expr_parts.specs.declared.found.Checked.{Checked}
-use Rattle.st_expr_parts.specs.declared.lists.CheckedArgument.{CheckedArgument}
-use Rattle.st_expr_parts.specs.declared.rows.Ahead.{Ahead}
-use Rattle.st_expr_parts.specs.declared.rows.Row.{Row}
-use Rattle.st_expr_parts.specs.Found.{Checks}
-use Rattle.st_expr_parts.specs.Rows.{EndsFront, Begins, Joins, Closes}
-use Rattle.st_expr_parts.specs.Wraps.{Negates}
+use Rattle.check_nodes.specs.declared.along.CheckedSelector.{CheckedSelector}
+use Rattle.check_nodes.specs.declared.found.Checked.{Checked}
+use Rattle.check_nodes.specs.declared.lists.CheckedArgument.{CheckedArgument}
+use Rattle.check_nodes.specs.declared.rows.Ahead.{Ahead}
+use Rattle.check_nodes.specs.declared.rows.Row.{Row}
+use Rattle.check_nodes.specs.Found.{Checks}
+use Rattle.check_nodes.specs.Rows.{EndsFront, Begins, Joins, Closes}
+use Rattle.check_nodes.specs.Wraps.{Negates}
 use Rattle.st_check_expr.specs.declared.walk.RowSoFar.{RowSoFar}
 use Rattle.st_check_expr.specs.Private.Along.{SelectorFinds}
 use Rattle.st_check_expr.specs.Private.Lists.{ArgumentFinds}

@@ -9,8 +9,8 @@ use Rattle.st_rules.specs.Scope.{Scope}
 use Rattle.st_rules.specs.Calls.{value_unsuited}
 use Rattle.st_rules.specs.Expressions.{line_of, type_of, faults, too_many_operators, expression_faults}
 use Rattle.st_rules.proofs.FaultLaws.{least_breaks_first}
-use Rattle.st_expr_parts.specs.declared.found.Checked.{Checked}
-use Rattle.st_expr_parts.specs.Found.{Checks}
+use Rattle.check_nodes.specs.declared.found.Checked.{Checked}
+use Rattle.check_nodes.specs.Found.{Checks}
 use Rattle.st_check_expr.proofs.Parts.{joined}
 
 pub whole_least : (s : Scope) (asked : Asked) (e : Expression ℕ) (x : Checked) (line : ℕ) (of_value inner operators found : Option (Code × ℕ)) → Checks x s asked e → line ≡ line_of e →

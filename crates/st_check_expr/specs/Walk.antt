@@ -7,9 +7,9 @@ use Rattle.st_rules.specs.Scope.{Scope}
 use Rattle.st_rules.specs.Places.{root_line, root_standing}
 use Rattle.st_rules.specs.Calls.{Matched}
 use Rattle.st_rules.specs.Expressions.{along_faults, argument_faults, typed_root, typed_along, typed_arguments}
-use Rattle.st_expr_parts.specs.declared.lists.Arguments.{Arguments as SoFar}
-use Rattle.st_expr_parts.specs.declared.wholes.CheckedPlace.{CheckedPlace}
-use Rattle.st_expr_parts.specs.Wholes.{root_part}
+use Rattle.check_nodes.specs.declared.lists.Arguments.{Arguments as SoFar}
+use Rattle.check_nodes.specs.declared.wholes.CheckedPlace.{CheckedPlace}
+use Rattle.check_nodes.specs.Wholes.{root_part}
 
 -- what a place breaks by its root and its selectors, and their typed trees, where a call stands behind it or not
 pub record PlaceFinds (x : CheckedPlace) (s : Scope) (called : Bool) (r : Root ℕ) (ss : Selectors ℕ) : Type 0 where

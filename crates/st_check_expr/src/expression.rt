@@ -3,15 +3,15 @@
 ghost use Rattle.std.specs.Prelude.{◌≡◌, [], IfOk, IfErr};
 ghost use Rattle.st_tree.specs.Expression.{expression_of};
 ghost use Rattle.st_rules.specs.Expressions.{expression_faults, type_of, typed};
-ghost use Rattle.st_expr_parts.specs.Found.{Finds};
+ghost use Rattle.check_nodes.specs.Found.{Finds};
 ghost use Rattle.st_check_expr.specs.Broken.{Reports};
 
 use crate::broken::Broken;
 use crate::walk::check;
+use check_nodes::check_calls::value_fault;
+use check_nodes::name_resolution::Scope;
+use check_nodes::{Checked, line_of, operators_fault};
 use plc_text::NoMemory;
-use st_expr_parts::st_calls::value_fault;
-use st_expr_parts::st_scope::Scope;
-use st_expr_parts::{Checked, line_of, operators_fault};
 use st_rules::{Asked, earlier};
 use st_tree::{Expr, Note};
 use std::alloc::Global;

@@ -7,7 +7,7 @@ mod expression;
 mod walk;
 
 pub use broken::Broken;
+pub use check_nodes;
+pub use check_nodes::check_calls;
 pub use expression::{check_expr, check_whole};
-pub use st_expr_parts;
-pub use st_expr_parts::st_calls;
 pub use walk::{check, check_arguments, check_place};

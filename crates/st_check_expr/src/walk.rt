@@ -4,22 +4,21 @@ ghost use Rattle.std.specs.Prelude.{◌≡◌, ◌&&◌, ◌<◌, ◌+◌, lengt
 ghost use Rattle.st_tree.specs.Expression.{no_tails, expression_of, expressions_of, selector_of, selectors_of, argument_of, arguments_of, tail_of, tails_of, place_of};
 ghost use Rattle.st_tree.specs.Expression as tree;
 ghost use Rattle.st_rules.specs.Places as places;
-ghost use Rattle.st_expr_parts.specs.Standing.{standing};
-ghost use Rattle.st_expr_parts.specs.Slots.{lent};
-ghost use Rattle.st_expr_parts.specs.Slots as slot_views;
-ghost use Rattle.st_expr_parts.specs.Found.{Checks};
+ghost use Rattle.check_nodes.specs.Standing.{standing};
+ghost use Rattle.check_nodes.specs.Slots.{lent};
+ghost use Rattle.check_nodes.specs.Slots as slot_views;
+ghost use Rattle.check_nodes.specs.Found.{Checks};
 ghost use Rattle.st_check_expr.specs.Walk.{PlaceFinds, ArgumentsFind};
 ghost use Rattle.st_check_expr.specs.Private.Rows.{Keeps, StepsAhead, LooksAhead, RowGoes, row_rest};
 ghost use Rattle.st_check_expr.specs.Private.Along.{AlongFinds, AlongGoes, SelectorFinds};
 ghost use Rattle.st_check_expr.specs.Private.Lists.{IndicesFind, ArgumentFinds};
 
-use plc_text::NoMemory;
-use st_expr_parts::st_operators::{is_arithmetic, number_asked};
-use st_expr_parts::st_places::{
+use check_nodes::check_places::{
     Standing, root_line, root_standing, selected, selector_fault, typed_root,
 };
-use st_expr_parts::st_scope::Scope;
-use st_expr_parts::{
+use check_nodes::name_resolution::Scope;
+use check_nodes::st_operators::{is_arithmetic, number_asked};
+use check_nodes::{
     Ahead, Along, Arguments, Checked, CheckedArgument, CheckedPlace, CheckedSelector, Indices, Row,
     Slot, as_int, asked_for, asked_nothing, at_root, began, behind, closed, denied, duration,
     enclosed, ended_by, enumerator, extended, falsehood, finish, front_asked, input, int,
@@ -28,6 +27,7 @@ use st_expr_parts::{
     prepare, reference, slot_at, started, to_the_end, truth, typed_literal, whole, with_argument,
     with_index,
 };
+use plc_text::NoMemory;
 use st_rules::Asked;
 use st_tree::{Argument, Expr, Place, Selector, Tail};
 use std::alloc::Global;

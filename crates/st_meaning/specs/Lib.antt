@@ -9,3 +9,4 @@ pub mod Enter
 pub mod ProcessImage
 pub mod Cycle
 pub mod Laws
+pub mod st_frame

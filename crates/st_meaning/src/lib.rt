@@ -2,5 +2,7 @@
 #![tactic(auto)]
 
 mod laws;
+pub mod st_frame;
 
 pub use laws::run_laws;
+pub use st_frame::{footprint_laws, frame_laws, good_laws};

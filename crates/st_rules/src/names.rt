@@ -3,8 +3,7 @@
 
 use crate::modifiers::Access;
 use crate::signature::ResultType;
-use plc_series::Series;
-use plc_text::{Items, Text};
+use plc_text::{Items, Series, Text};
 use st_tree::{ClassSort, SectionSort, Target};
 use st_types::StType;
 

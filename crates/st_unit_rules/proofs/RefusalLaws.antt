@@ -9,7 +9,7 @@ use Rattle.st_tree.specs.declared.configuration.Configuration.{Configuration}
 use Rattle.st_tree.specs.declared.unit.Decl.{Decl}
 use Rattle.st_rules.specs.Faults.{Faults, rank, least, Breaks, BreaksFirst}
 use Rattle.st_rules.proofs.FaultLaws.{least_breaks_first}
-use Rattle.declared_names.specs.Declarations.{Placed, placed, name_of, configurations_in}
+use Rattle.st_unit_rules.specs.declared_names.Declarations.{Placed, placed, name_of, configurations_in}
 use Rattle.st_unit_rules.specs.UnitRefusal.{faults_of, faults_at, IsFirstBad, BreaksNothing, UnitRefusal, first_bad, no_configuration}
 use Rattle.st_unit_rules.specs.RefusalLaws.{IsGood, RefusalLaws}
 

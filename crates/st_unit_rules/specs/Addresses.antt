@@ -8,7 +8,7 @@ use Rattle.st_tree.specs.declared.address.Area.TheVariants as area
 use Rattle.st_tree.specs.declared.declaration.SectionSort.{SectionSort}
 use Rattle.st_tree.specs.declared.declaration.SectionSort.TheVariants as sort
 use Rattle.st_rules.specs.Faults.{Faults, when}
-use Rattle.declared_names.specs.Variables.{Written}
+use Rattle.st_unit_rules.specs.declared_names.Variables.{Written}
 use Rattle.st_unit_rules.specs.VariableRules.{width_bits, width_bytes, has_bit_above_seven, passes_the_image}
 
 -- bits of one area: the first, and how many

@@ -54,11 +54,11 @@ use Rattle.st_rules.specs.Scope.{Scope}
 use Rattle.st_rules.specs.Expressions.{note, told}
 use Rattle.st_rules.specs.Statements.{typed_statements}
 use Rattle.st_unit_rules.specs.ConfigurationRules.{is_interval, is_priority, runs_in}
-use Rattle.declared_names.specs.Declarations.{Region, of_global, of_instance, Declaration, declarations_of, regions_of, instances_of, is_first_configuration, entries_in, functions_in, programs_in, configurations_in}
+use Rattle.st_unit_rules.specs.declared_names.Declarations.{Region, of_global, of_instance, Declaration, declarations_of, regions_of, instances_of, is_first_configuration, entries_in, functions_in, programs_in, configurations_in}
 use Rattle.st_unit_rules.specs.Initials.{typed_constant, typed_initial}
-use Rattle.declared_names.specs.UnitNames.{unit_names, unit_scope, class_scope, method_scope, function_scope, prototype_scope, program_scope}
-use Rattle.declared_names.specs.Variables.{Written}
-use Rattle.declared_names.specs.WrittenTypes.{arrays_of, element_written, type_written}
+use Rattle.st_unit_rules.specs.declared_names.UnitNames.{unit_names, unit_scope, class_scope, method_scope, function_scope, prototype_scope, program_scope}
+use Rattle.st_unit_rules.specs.declared_names.Variables.{Written}
+use Rattle.st_unit_rules.specs.declared_names.WrittenTypes.{arrays_of, element_written, type_written}
 
 -- each of a list is related to the one in its place, and both lists are as long
 abbrev pub Each : {A B : Type 0} → (A → B → Type 0) → List A → List B → Type 0

@@ -17,9 +17,9 @@ use Rattle.st_tree.specs.Initial.{Initial, Value, Array, Fields, Part, One, Repe
 use Rattle.st_rules.specs.Chains.{leads_within}
 use Rattle.st_rules.specs.Faults.{Faults, when}
 use Rattle.st_rules.specs.Numbered.{each_numbered}
-use Rattle.declared_names.specs.WrittenTypes.{dimensions}
-use Rattle.declared_names.specs.Variables.{Written, sections_written, sections_in, is_kept_written}
-use Rattle.declared_names.specs.Declarations.{Declaration, an_entry, a_global, an_interface, a_class, a_function, name_of, is_class, item_line}
+use Rattle.st_unit_rules.specs.declared_names.WrittenTypes.{dimensions}
+use Rattle.st_unit_rules.specs.declared_names.Variables.{Written, sections_written, sections_in, is_kept_written}
+use Rattle.st_unit_rules.specs.declared_names.Declarations.{Declaration, an_entry, a_global, an_interface, a_class, a_function, name_of, is_class, item_line}
 
 -- ---- what texts name
 

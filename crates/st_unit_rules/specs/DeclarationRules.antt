@@ -42,14 +42,14 @@ use Rattle.st_rules.specs.Statements.{body_faults}
 use Rattle.st_unit_rules.specs.Addresses.{Bits, variable_bits, all_bits, bits_shared}
 use Rattle.st_unit_rules.specs.ConfigurationRules.{second_configuration, tasks_and_instances}
 use Rattle.st_unit_rules.specs.Cycles.{cycle_faults, inner_cycles, leads_to_cycle, own_values}
-use Rattle.declared_names.specs.Declarations.{Declaration, an_entry, a_global, an_interface, a_class, a_function, a_program, a_configuration, Global, Region, of_global, of_instance, Placed, declarations, configuration_globals, region_of_global, is_class, is_interface, is_entry, is_configuration, is_first_configuration, number_among, entries_in, programs_in, name_of, item_line_of, item_line, heading_line}
+use Rattle.st_unit_rules.specs.declared_names.Declarations.{Declaration, an_entry, a_global, an_interface, a_class, a_function, a_program, a_configuration, Global, Region, of_global, of_instance, Placed, declarations, configuration_globals, region_of_global, is_class, is_interface, is_entry, is_configuration, is_first_configuration, number_among, entries_in, programs_in, name_of, item_line_of, item_line, heading_line}
 use Rattle.st_unit_rules.specs.Initials.{initial_faults}
 use Rattle.st_unit_rules.specs.Limits.{too_many_declarations, too_many_classes, too_many_regions, too_many_values, too_many_methods, too_many_parameters, too_many_locals, too_many_bases, too_many_interfaces_above, most_steps, is_too_deep, too_deep, variable_too_deep, values_of, all_values, sum_of}
 use Rattle.st_unit_rules.specs.NameRules.{declared_before, name_of_conversion, space_faults, local_name_faults, member_name_faults, part_names, section_names, prototype_name_faults, configuration_name_faults, word_twice}
-use Rattle.declared_names.specs.UnitNames.{unit_names, unit_scope, class_scope, method_scope, function_scope, prototype_scope, program_scope}
+use Rattle.st_unit_rules.specs.declared_names.UnitNames.{unit_names, unit_scope, class_scope, method_scope, function_scope, prototype_scope, program_scope}
 use Rattle.st_unit_rules.specs.VariableRules.{Home, of_class, of_block, of_program, of_routine, of_prototype, of_globals, instance_out_of_place, heading_faults, item_faults, sections_faults, result_faults}
-use Rattle.declared_names.specs.Variables.{sections_written, sections_in, is_parameter_written, is_kept_written, is_body_written}
-use Rattle.declared_names.specs.WrittenTypes.{type_written, type_faults}
+use Rattle.st_unit_rules.specs.declared_names.Variables.{sections_written, sections_in, is_parameter_written, is_kept_written, is_body_written}
+use Rattle.st_unit_rules.specs.declared_names.WrittenTypes.{type_written, type_faults}
 use Rattle.st_unit_rules.specs.Worth.{Worth, a_number, worth_of, same_worth}
 
 -- the items of sections

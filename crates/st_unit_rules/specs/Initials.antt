@@ -19,7 +19,7 @@ use Rattle.st_rules.specs.Faults.{Faults, when}
 use Rattle.st_rules.specs.Literals.{asked_of, past_64_bits}
 use Rattle.st_rules.specs.Scope.{Scope, field_named, instance_variable, may_use}
 use Rattle.st_rules.specs.Expressions.{note, typed}
-use Rattle.declared_names.specs.Constants.{Outcome, comes_to, constant_faults, constant_value}
+use Rattle.st_unit_rules.specs.declared_names.Constants.{Outcome, comes_to, constant_faults, constant_value}
 
 -- ---- what a list is for
 

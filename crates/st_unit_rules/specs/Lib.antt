@@ -10,4 +10,8 @@ pub mod DeclarationRules
 pub mod UnitRefusal
 pub mod Checked
 pub mod RefusalLaws
-pub use Rattle.declared_names.specs.Variables
+pub mod declared_names
+pub mod passing_laws
+pub mod refusal_codes
+pub mod declaration_list
+pub use Rattle.st_unit_rules.specs.declared_names.Variables

@@ -15,8 +15,8 @@ use Rattle.st_rules.specs.Classes.{base_of, chain}
 use Rattle.st_rules.specs.Interfaces.{extended}
 use Rattle.st_rules.specs.Faults.{Faults, when}
 use Rattle.st_rules.specs.Scope.{Scope, is_of_instance, parts_of, field_list, variables_of}
-use Rattle.declared_names.specs.WrittenTypes.{array_depth, type_written}
-use Rattle.declared_names.specs.Declarations.{Declaration}
+use Rattle.st_unit_rules.specs.declared_names.WrittenTypes.{array_depth, type_written}
+use Rattle.st_unit_rules.specs.declared_names.Declarations.{Declaration}
 use Rattle.st_unit_rules.specs.Worth.{count_to}
 use Rattle.st_unit_rules.specs.Cycles.{element_names, types_named, leads_to_cycle, lies_on_cycle}
 

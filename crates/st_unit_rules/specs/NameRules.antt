@@ -21,8 +21,8 @@ use Rattle.st_rules.specs.Faults.{Faults, when}
 use Rattle.st_rules.specs.Modifiers.{access_word}
 use Rattle.st_rules.specs.Scope.{is_external}
 use Rattle.st_rules.specs.Calls.{conversion_named}
-use Rattle.declared_names.specs.Variables.{Written, sections_written, sections_in}
-use Rattle.declared_names.specs.Declarations.{configuration_globals}
+use Rattle.st_unit_rules.specs.declared_names.Variables.{Written, sections_written, sections_in}
+use Rattle.st_unit_rules.specs.declared_names.Declarations.{configuration_globals}
 
 -- ---- names
 

@@ -2,7 +2,7 @@
 use Rattle.std.specs.Prelude.{◌≡◌, ◌⊎◌, ℕ, List, []}
 use Rattle.plc_text.specs.declared.code.Code.{Code}
 use Rattle.st_tree.specs.declared.unit.Decl.{Decl}
-use Rattle.declared_names.specs.Declarations.{configurations_in}
+use Rattle.st_unit_rules.specs.declared_names.Declarations.{configurations_in}
 use Rattle.st_unit_rules.specs.UnitRefusal.{BreaksNothing, UnitRefusal}
 
 -- nothing breaks a rule, and there is a configuration

@@ -4,7 +4,7 @@ use Rattle.plc_text.specs.declared.code.Code.TheVariants.{E15}
 use Rattle.plc_text.specs.declared.code.Code.{Code}
 use Rattle.st_tree.specs.declared.unit.Decl.{Decl}
 use Rattle.st_rules.specs.Faults.{Faults, BreaksFirst}
-use Rattle.declared_names.specs.Declarations.{Placed, placed, name_of, configurations_in}
+use Rattle.st_unit_rules.specs.declared_names.Declarations.{Placed, placed, name_of, configurations_in}
 use Rattle.st_unit_rules.specs.DeclarationRules.{declaration_faults}
 
 module _ (decls : List (Decl ℕ)) where

@@ -30,9 +30,9 @@ use Rattle.st_rules.specs.Modifiers.{access_word, is_abstract}
 use Rattle.st_rules.specs.Numbered.{passes_if_there}
 use Rattle.st_rules.specs.Scope.{Scope, first_named, global_name, is_external}
 use Rattle.st_rules.specs.Types.{same_type}
-use Rattle.declared_names.specs.WrittenTypes.{type_written, type_faults}
-use Rattle.declared_names.specs.Variables.{declares_constants, may_be_constant}
-use Rattle.declared_names.specs.Declarations.{item_line}
+use Rattle.st_unit_rules.specs.declared_names.WrittenTypes.{type_written, type_faults}
+use Rattle.st_unit_rules.specs.declared_names.Variables.{declares_constants, may_be_constant}
+use Rattle.st_unit_rules.specs.declared_names.Declarations.{item_line}
 use Rattle.st_unit_rules.specs.NameRules.{word_twice}
 use Rattle.st_unit_rules.specs.Initials.{initial_faults}
 

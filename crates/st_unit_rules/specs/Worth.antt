@@ -15,8 +15,8 @@ use Rattle.st_tree.specs.Initial.{Initial, Value, Array, Fields, One, Repeated, 
 use Rattle.st_tree.specs.Number.{number_of}
 use Rattle.st_rules.specs.Literals.{asked_of}
 use Rattle.st_rules.specs.Scope.{Scope}
-use Rattle.declared_names.specs.Constants.{told_value}
-use Rattle.declared_names.specs.WrittenTypes.{type_written}
+use Rattle.st_unit_rules.specs.declared_names.Constants.{told_value}
+use Rattle.st_unit_rules.specs.declared_names.WrittenTypes.{type_written}
 
 mutual
   pub data Worth : Type 0 where

@@ -3,8 +3,7 @@
 ghost use Rattle.std.specs.Prelude.{◌≡◌, IfOk};
 
 use crate::value::{Member, Value};
-use plc_series::Series;
-use plc_text::{NoMemory, Text};
+use plc_text::{NoMemory, Series, Text};
 use st_tree::Path;
 use std::alloc::Global;
 

@@ -8,7 +8,7 @@ ghost use Rattle.value_trees.specs.Private.Parts.{ElementExchanged, MemberExchan
 
 use crate::reading::place_of_index;
 use crate::value::{Member, Value};
-use plc_series::Series;
+use plc_text::Series;
 use st_tree::Step;
 use std::mem;
 

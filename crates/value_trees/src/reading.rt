@@ -5,7 +5,7 @@ ghost use Rattle.st_values.specs.Value as plain;
 ghost use Rattle.value_trees.specs.Value.{value_of, values_of, members_of};
 
 use crate::value::{Member, Value};
-use plc_series::Series;
+use plc_text::Series;
 use st_tree::Step;
 
 /// Which element of so many has this index, where the least one is `low`.

@@ -1,7 +1,6 @@
 //! Values of a running program, with the names that its text gives.
 
-use plc_series::Series;
-use plc_text::Text;
+use plc_text::{Series, Text};
 use st_tree::Path;
 
 /// A variable of an instance or a field of a structure, with its name.

@@ -4,7 +4,7 @@ use Rattle.st_tree.specs.declared.expression.Root.{Root}
 use Rattle.st_tree.specs.declared.program.Note.{Note}
 use Rattle.st_tree.specs.Expression.{Expression, expression_of, Selectors}
 use Rattle.st_values.specs.Program.{Program}
-use Rattle.st_frame.specs.Use.{Use, changed, named_region, name_uses, owner_uses, place_uses, expression_uses, step_uses}
+use Rattle.st_meaning.specs.st_frame.Use.{Use, changed, named_region, name_uses, owner_uses, place_uses, expression_uses, step_uses}
 use Rattle.body_uses.specs.declared.statements.Range.{Range}
 
 module _ (p : Program) where

@@ -4,7 +4,7 @@ use Rattle.st_tree.specs.declared.program.Note.{Note}
 use Rattle.st_tree.specs.Expression.{Argument, Positional, Input, Output}
 use Rattle.st_values.specs.Program.{Parameter, Program}
 use Rattle.st_meaning.specs.Call.{parameter_named, next_parameter, behind_next}
-use Rattle.st_frame.specs.Use.{Called, Owner, Use, is_bound, bound_uses, expression_uses, owner_uses, place_uses}
+use Rattle.st_meaning.specs.st_frame.Use.{Called, Owner, Use, is_bound, bound_uses, expression_uses, owner_uses, place_uses}
 use Rattle.body_uses.specs.declared.uses.Called.{Called as CodeCalled}
 use Rattle.body_uses.specs.declared.uses.Owner.{Owner as CodeOwner}
 use Rattle.body_uses.specs.Uses.{called_of, owner_of}

@@ -7,7 +7,7 @@ use Rattle.st_change.specs.From.{field_number}
 use Rattle.st_change.specs.Carry.{Old, old_field}
 use Rattle.shape_trees.specs.Shape.{fields_of, shape_of}
 use Rattle.value_trees.specs.Value.{members_of, value_of, values_of}
-use Rattle.change_pairs.specs.Places.{Table, found_in}
+use Rattle.change_names.specs.change_pairs.Places.{Table, found_in}
 use Rattle.change_carry.specs.declared.parts.Elements.{Elements as CodeElements}
 use Rattle.change_carry.specs.declared.parts.Part.{Part}
 use Rattle.change_carry.specs.declared.parts.Parts.{Parts as CodeParts}

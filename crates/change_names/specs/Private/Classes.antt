@@ -1,12 +1,12 @@
 -- Classes by number, and the pairs of lists of them.
 use Rattle.std.specs.Prelude.{◌≡◌, ℕ, List, [], Option, Some, None, slice_get}
 use Rattle.st_values.specs.Program.{Variable, Class, Program, class_at}
-use Rattle.st_initial.specs.declared.variables.Variable as held
-use Rattle.st_initial.specs.Members.{items_at}
-use Rattle.st_initial.specs.Variables.{variables_of}
+use Rattle.program_tables.specs.declared.st_initial.variables.Variable as held
+use Rattle.program_tables.specs.st_initial.Members.{items_at}
+use Rattle.program_tables.specs.st_initial.Variables.{variables_of}
 use Rattle.st_change.specs.From.{Pairs, own_pairs}
-use Rattle.change_pairs.specs.declared.sources.Pair.{Pair}
-use Rattle.change_pairs.specs.Pairs.{pairs_of}
+use Rattle.change_names.specs.declared.change_pairs.sources.Pair.{Pair}
+use Rattle.change_names.specs.change_pairs.Pairs.{pairs_of}
 
 abbrev pub class_by : Program → Option ℕ → Option Class
 class_by p None = None

@@ -3,7 +3,7 @@ use Rattle.std.specs.Prelude.{ℕ, ℤ, Option, Some, None}
 use Rattle.plc_text.specs.declared.code.Code.{Code}
 use Rattle.st_rules.specs.Faults.{earlier, least}
 use Rattle.st_rules.specs.Scope.{Scope}
-use Rattle.declared_names.specs.Constants.{Outcome, comes_to, zero_divisor}
+use Rattle.st_unit_rules.specs.declared_names.Constants.{Outcome, comes_to, zero_divisor}
 
 -- a number where no rule is broken
 abbrev pub number_found : Option (Code × ℕ) → Outcome → Option ℤ

@@ -4,7 +4,7 @@ use Rattle.st_tree.specs.declared.expression.Root.{Root}
 use Rattle.st_tree.specs.Expression.{Expression, Call, Selectors, Argument, Positional, Arguments}
 use Rattle.st_rules.specs.declared.asked.Asked.{Asked}
 use Rattle.st_rules.specs.Scope.{Scope}
-use Rattle.declared_names.specs.Constants.{Outcome, cannot_be_told, constant_value}
+use Rattle.st_unit_rules.specs.declared_names.Constants.{Outcome, cannot_be_told, constant_value}
 
 -- the operand of a conversion, of its first argument
 abbrev pub given_value : Scope → Asked → Argument ℕ → Outcome

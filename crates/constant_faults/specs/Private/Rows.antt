@@ -8,8 +8,8 @@ use Rattle.st_rules.specs.declared.asked.Asked.TheVariants.{Anything}
 use Rattle.st_rules.specs.Literals.{number_asked}
 use Rattle.st_rules.specs.Scope.{Scope}
 use Rattle.st_rules.specs.Expressions.{is_untyped, front_asked, asked_behind, row_type}
-use Rattle.declared_names.specs.Constants.{Outcome, row_value}
-use Rattle.constant_values.specs.Outcome.{outcome}
+use Rattle.st_unit_rules.specs.declared_names.Constants.{Outcome, row_value}
+use Rattle.constant_folding.specs.constant_values.Outcome.{outcome}
 use Rattle.constant_faults.specs.declared.valued.Valued.{Valued}
 use Rattle.constant_faults.specs.declared.rows.Row.{Row}
 use Rattle.constant_faults.specs.declared.rows.Ahead.{Ahead}

@@ -1,13 +1,13 @@
 -- Places of what declarations contain, part by part.
 use Rattle.std.specs.Prelude.{ℕ, if◌then◌else◌, List, [], Some}
 use Rattle.st_tree.specs.declared.declaration.FieldGroup.{FieldGroup}
-use Rattle.declared_names.specs.Variables.{Written, is_kept_written}
-use Rattle.declared_names.specs.Declarations.{Declaration}
+use Rattle.st_unit_rules.specs.declared_names.Variables.{Written, is_kept_written}
+use Rattle.st_unit_rules.specs.declared_names.Declarations.{Declaration}
 use Rattle.st_unit_rules.specs.Cycles.{types_named, element_names, contained}
-use Rattle.declaration_list.specs.declared.listed.Declared.{Declared}
-use Rattle.declaration_list.specs.declared.written.WrittenName.{WrittenName}
-use Rattle.declaration_list.specs.Listed.{declared_as}
-use Rattle.declaration_list.specs.Written.{written_of}
+use Rattle.st_unit_rules.specs.declared.declaration_list.listed.Declared.{Declared}
+use Rattle.st_unit_rules.specs.declared.declaration_list.written.WrittenName.{WrittenName}
+use Rattle.st_unit_rules.specs.declaration_list.Listed.{declared_as}
+use Rattle.st_unit_rules.specs.declaration_list.Written.{written_of}
 
 module _ (ds : List Declaration) where
   abbrev pub group_places : FieldGroup ℕ → List ℕ

@@ -9,12 +9,12 @@ use Rattle.st_tree.specs.declared.declaration.Item.{Item}
 use Rattle.st_tree.specs.Initial.{initial_of}
 use Rattle.st_rules.specs.Faults.{Faults, when}
 use Rattle.st_rules.specs.Numbered.{each_numbered}
-use Rattle.declared_names.specs.Variables.{Written}
-use Rattle.declared_names.specs.Declarations.{item_line}
+use Rattle.st_unit_rules.specs.declared_names.Variables.{Written}
+use Rattle.st_unit_rules.specs.declared_names.Declarations.{item_line}
 use Rattle.st_unit_rules.specs.Cycles.{Named, alone, before_dot, before_hash, named_in_bounds, named_in_value, inner_from, needs_inner}
 use Rattle.graph_cycles.specs.Graph.{marked}
-use Rattle.declaration_list.specs.declared.written.WrittenName.{WrittenName}
-use Rattle.declaration_list.specs.Written.{written_of}
+use Rattle.st_unit_rules.specs.declared.declaration_list.written.WrittenName.{WrittenName}
+use Rattle.st_unit_rules.specs.declaration_list.Written.{written_of}
 use Rattle.declared_graph.specs.declared.names.Named.{Named as Lent}
 use Rattle.declared_graph.specs.Private.Names.{named_as}
 

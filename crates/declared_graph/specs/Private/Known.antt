@@ -4,9 +4,9 @@ use Rattle.std.specs.Cmp.Lexicographic.{pointwise}
 use Rattle.std.specs.HashMap.{HashMap, get}
 use Rattle.std.specs.declared.hash.FoldHasher.{FoldHasher}
 use Rattle.std.specs.declared.hash.BuildHasherDefault.{BuildHasherDefault}
-use Rattle.declared_names.specs.Declarations.{Declaration, a_global, is_class}
+use Rattle.st_unit_rules.specs.declared_names.Declarations.{Declaration, a_global, is_class}
 use Rattle.st_unit_rules.specs.Cycles.{place_from, is_type, is_global_or_function}
-use Rattle.declaration_list.specs.Listed.{declared_as}
+use Rattle.st_unit_rules.specs.declaration_list.Listed.{declared_as}
 use Rattle.declared_graph.specs.declared.known.Which.{Which}
 use Rattle.declared_graph.specs.declared.known.Which.TheVariants.{Types, Classes, GlobalsAndFunctions}
 use Rattle.declared_graph.specs.declared.known.Known.{Known}

@@ -1,6 +1,6 @@
 -- The marks of the graph of a unit.
 use Rattle.std.specs.Prelude.{◌≡◌, ℕ, Bool, List}
-use Rattle.declared_names.specs.Declarations.{Declaration}
+use Rattle.st_unit_rules.specs.declared_names.Declarations.{Declaration}
 use Rattle.st_unit_rules.specs.Cycles.{is_type, contains_itself, leads_to_cycle, needs_itself}
 use Rattle.graph_cycles.specs.Graph.{marked}
 use Rattle.declared_graph.specs.Private.Known.{Table, IsTableOf}

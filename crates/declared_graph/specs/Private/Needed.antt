@@ -2,10 +2,10 @@
 use Rattle.std.specs.Prelude.{ℕ, ◌&&◌, if◌then◌else◌, List, [], ◌++◌, option_map, Bool, Some}
 use Rattle.st_tree.specs.declared.declaration.Item.{Item}
 use Rattle.st_tree.specs.Initial.{initial_of}
-use Rattle.declared_names.specs.Declarations.{Declaration, Global}
+use Rattle.st_unit_rules.specs.declared_names.Declarations.{Declaration, Global}
 use Rattle.st_unit_rules.specs.Cycles.{needed_for, needed_by_type, needed_by_value, needed}
-use Rattle.declaration_list.specs.declared.listed.Declared.{Declared}
-use Rattle.declaration_list.specs.Listed.{declared_as}
+use Rattle.st_unit_rules.specs.declared.declaration_list.listed.Declared.{Declared}
+use Rattle.st_unit_rules.specs.declaration_list.Listed.{declared_as}
 use Rattle.declared_graph.specs.declared.names.Named.{Named}
 use Rattle.declared_graph.specs.Private.Names.{named_as}
 use Rattle.declared_graph.specs.Private.Shared.{is_first}

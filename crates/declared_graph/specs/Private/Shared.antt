@@ -1,7 +1,7 @@
 -- Nodes that share what they lead to with the node before them.
 use Rattle.std.specs.Prelude.{◌≡◌, ℕ, suc, ◌+◌, ◌<◌, Bool, true, false, if◌then◌else◌, List, [], ◌∷◌, map, length, Option, Some, None}
 use Rattle.st_rules.specs.Chains.{is_among}
-use Rattle.declared_names.specs.Declarations.{Declaration, a_global}
+use Rattle.st_unit_rules.specs.declared_names.Declarations.{Declaration, a_global}
 use Rattle.declared_graph.specs.Private.Edges.{out_at}
 
 -- a node, or the last one before it that is the first of those that share; the node has number i, and h is that of the one before

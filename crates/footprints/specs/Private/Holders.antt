@@ -2,7 +2,7 @@
 use Rattle.std.specs.Prelude.{◌≡◌, ◌<◌, ◌⊎◌, ℕ, List, [], Option, Some, None, IsTrue, slice_get}
 use Rattle.st_types.specs.declared.st_type.StType.{StType}
 use Rattle.st_values.specs.Program.{Program, conforms}
-use Rattle.st_frame.specs.Footprint.{Has}
+use Rattle.st_meaning.specs.st_frame.Footprint.{Has}
 use Rattle.region_instances.specs.Instances.{HoldsInstance, RegionsUnfold}
 
 -- the regions below this number that hold an instance of just this class

@@ -4,11 +4,11 @@ use Rattle.std.specs.List.{list_any}
 use Rattle.st_tree.specs.declared.address.Area.TheVariants as area
 use Rattle.st_tree.specs.Address.{area_of}
 use Rattle.st_values.specs.Program.{Variable, Region, Program, class_variables}
-use Rattle.st_initial.specs.declared.variables.Variable.{Variable as CodeVariable}
-use Rattle.st_initial.specs.Members.{list_at}
+use Rattle.program_tables.specs.declared.st_initial.variables.Variable.{Variable as CodeVariable}
+use Rattle.program_tables.specs.st_initial.Members.{list_at}
 use Rattle.st_meaning.specs.Call.{class_of_kind}
 use Rattle.st_meaning.specs.ProcessImage.{Located, located_of, is_in, same_area}
-use Rattle.st_frame.specs.Footprint.{Has}
+use Rattle.st_meaning.specs.st_frame.Footprint.{Has}
 
 abbrev pub is_input : Option (List ℕ) → Bool
 is_input None = false

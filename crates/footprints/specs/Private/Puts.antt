@@ -1,6 +1,6 @@
 -- What is put into a list of regions.
 use Rattle.std.specs.Prelude.{ℕ, ◌⊎◌, List}
-use Rattle.st_frame.specs.Footprint.{Has}
+use Rattle.st_meaning.specs.st_frame.Footprint.{Has}
 
 -- all that was there is there, and what is new is one of these: all of them are there, but those that are left
 pub record PutsBut (P L : ℕ → Type 0) (old new : List ℕ) : Type 0 where

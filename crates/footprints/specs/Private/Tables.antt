@@ -2,9 +2,9 @@
 use Rattle.std.specs.Prelude.{◌≡◌, length}
 use Rattle.st_values.specs.View.{program_of}
 use Rattle.routine_tables.specs.Tables.{Holds}
-use Rattle.signature_tables.specs.Tables.{Declares}
+use Rattle.routine_tables.specs.signature_tables.Tables.{Declares}
 use Rattle.region_instances.specs.Instances.{RegionsUnfold}
-use Rattle.reached_routines.specs.Conformers.{AreConformers}
+use Rattle.footprints.specs.reached_routines.Conformers.{AreConformers}
 use Rattle.footprints.specs.declared.tables.Tables.{Tables}
 use Rattle.footprints.specs.Private.Holders.{AreAllHolders}
 use Rattle.footprints.specs.Private.Inputs.{are_inputs}

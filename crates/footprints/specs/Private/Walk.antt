@@ -5,11 +5,11 @@ use Rattle.st_tree.specs.declared.program.Program.{Program as CheckedProgram}
 use Rattle.st_values.specs.Program.{Routine, Program}
 use Rattle.st_values.specs.View.{program_of}
 use Rattle.st_meaning.specs.Enter.{programs_of}
-use Rattle.st_frame.specs.Use.{Owner, the_region, the_instances, Use, names, follows, changes, routine_uses}
-use Rattle.st_frame.specs.Footprint.{Has, Reached}
+use Rattle.st_meaning.specs.st_frame.Use.{Owner, the_region, the_instances, Use, names, follows, changes, routine_uses}
+use Rattle.st_meaning.specs.st_frame.Footprint.{Has, Reached}
 use Rattle.program_tables.specs.Routine.{routine_of}
 use Rattle.program_tables.specs.declared.routine.RoutineId.{RoutineId}
-use Rattle.reached_routines.specs.Families.{Family, kind_of, same_family}
+use Rattle.footprints.specs.reached_routines.Families.{Family, kind_of, same_family}
 use Rattle.footprints.specs.declared.walk.Part.{Part}
 use Rattle.footprints.specs.declared.walk.Part.TheVariants as part
 use Rattle.footprints.specs.Private.Holders.{Held}

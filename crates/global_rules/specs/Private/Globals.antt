@@ -5,8 +5,8 @@ use Rattle.st_types.specs.declared.st_type.StType.{StType}
 use Rattle.st_tree.specs.declared.program.RegionDecl.{RegionDecl}
 use Rattle.st_rules.specs.Faults.{least, earlier}
 use Rattle.st_rules.specs.Scope.{Scope}
-use Rattle.declared_names.specs.Variables.{Written}
-use Rattle.declaration_list.specs.declared.written.WrittenName.{WrittenName}
+use Rattle.st_unit_rules.specs.declared_names.Variables.{Written}
+use Rattle.st_unit_rules.specs.declared.declaration_list.written.WrittenName.{WrittenName}
 use Rattle.section_rules.specs.Headings.{heading_faults}
 use Rattle.st_unit_rules.specs.VariableRules.{of_globals}
 use Rattle.global_rules.specs.declared.shared.SharedItem.{SharedItem}

@@ -6,7 +6,7 @@ use Rattle.st_tree.specs.declared.unit.Decl.{Decl}
 use Rattle.st_tree.specs.Initial.{initial_of}
 use Rattle.st_rules.specs.Expressions.{told}
 use Rattle.st_rules.specs.Scope.{Scope}
-use Rattle.declared_names.specs.Variables.{Written}
+use Rattle.st_unit_rules.specs.declared_names.Variables.{Written}
 use Rattle.st_unit_rules.specs.Checked.{marks_of}
 use Rattle.st_unit_rules.specs.Initials.{typed_initial}
 

@@ -3,8 +3,8 @@ use Rattle.std.specs.Prelude.{ℕ, Bool}
 use Rattle.st_tree.specs.declared.declaration.Item.{Item}
 use Rattle.st_tree.specs.declared.declaration.Section.{Section}
 use Rattle.st_tree.specs.declared.name.Name.{Name}
-use Rattle.declared_names.specs.Declarations.{Global}
-use Rattle.declaration_list.specs.Written.{written_in}
+use Rattle.st_unit_rules.specs.declared_names.Declarations.{Global}
+use Rattle.st_unit_rules.specs.declaration_list.Written.{written_in}
 
 abbrev pub global_with : Section ℕ → Item ℕ → Bool → Name → Global
 global_with s item first n = record { section = s; item = item; written = written_in s item n; first = first }

@@ -3,10 +3,10 @@ use Rattle.std.specs.Prelude.{◌≡◌, ℕ, List}
 use Rattle.st_tree.specs.declared.declaration.Item.{Item}
 use Rattle.st_tree.specs.declared.unit.Decl.{Decl}
 use Rattle.st_rules.specs.Faults.{least, earlier}
-use Rattle.declared_names.specs.WrittenTypes.{type_written}
+use Rattle.st_unit_rules.specs.declared_names.WrittenTypes.{type_written}
 use Rattle.st_unit_rules.specs.DeclarationRules.{unit, item_too_deep}
-use Rattle.variable_rules.specs.CheckedType.{CheckedType}
-use Rattle.variable_rules.specs.declared.items.CheckedItem.{CheckedItem}
+use Rattle.check_declared_variables.specs.variable_rules.CheckedType.{CheckedType}
+use Rattle.check_declared_variables.specs.declared.variable_rules.items.CheckedItem.{CheckedItem}
 use Rattle.global_rules.specs.declared.shared.SharedItem.{SharedItem}
 
 pub record IsShared (c : SharedItem) (kind : CheckedType) (item : CheckedItem) (decls : List (Decl ℕ)) (written : Item ℕ) : Type 0 where

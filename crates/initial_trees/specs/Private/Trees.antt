@@ -10,7 +10,7 @@ use Rattle.st_values.specs.Initial.{init, given_for, list_given, fields_given}
 use Rattle.st_values.specs.Program.{Variable, Program, class_at, class_variables}
 use Rattle.st_values.specs.Shape.{shape_within}
 use Rattle.st_values.specs.Value.{Value, structure, instance, Values, no_values, value_then, Members, no_members, member_then, ◌>>=◌}
-use Rattle.st_initial.specs.Variables.{fields_at}
+use Rattle.program_tables.specs.st_initial.Variables.{fields_at}
 use Rattle.initial_trees.specs.Private.Kinds.{structure_name_at}
 
 abbrev pub given_by : Option (Bor (Init Note)) → Option (Initial Note)

@@ -2,8 +2,8 @@
 use Rattle.std.specs.Prelude.{◌≡◌, ℕ, ◌+◌, Bool, List, Some}
 use Rattle.st_values.specs.Program.{Variable, Program}
 use Rattle.st_values.specs.Shape.{Fields, fields_by, shape_within}
-use Rattle.store_bytes.specs.Place.{gap, greatest, ending}
-use Rattle.store_bytes.specs.PlaceLaws.{joined}
+use Rattle.mem_layout.specs.store_bytes.Place.{gap, greatest, ending}
+use Rattle.mem_layout.specs.store_bytes.PlaceLaws.{joined}
 use Rattle.mem_layout.specs.declared.entries.Laid.{Laid}
 use Rattle.mem_layout.specs.declared.sizes.Entry.{Entry}
 use Rattle.mem_layout.specs.Private.Table.{start, wide, Rows}

@@ -4,7 +4,7 @@ use Rattle.st_types.specs.declared.st_type.StType.{StType}
 use Rattle.st_values.specs.Program.{Program}
 use Rattle.st_values.specs.Shape.{Shape, extent, shape_within}
 use Rattle.st_values.specs.Value.{Step, place_of_index}
-use Rattle.store_bytes.specs.Place.{Place, size, element_place, inner_place}
+use Rattle.mem_layout.specs.store_bytes.Place.{Place, size, element_place, inner_place}
 use Rattle.mem_layout.specs.Layout.{IsSmall}
 
 abbrev pub offset_of : Option Place → Option ℕ

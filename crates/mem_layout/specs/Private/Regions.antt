@@ -1,7 +1,7 @@
 -- A layout's tables, and when they are right.
 use Rattle.std.specs.Prelude.{◌≡◌, List, [], ◌∷◌}
 use Rattle.st_values.specs.Program.{Region, Program}
-use Rattle.store_bytes.specs.Place.{size}
+use Rattle.mem_layout.specs.store_bytes.Place.{size}
 use Rattle.mem_layout.specs.Layout.{HasShape, RegionsHaveShapes}
 use Rattle.mem_layout.specs.declared.sizes.Tables.{Tables}
 use Rattle.mem_layout.specs.declared.layout.Region.{Region as Row}

@@ -2,8 +2,8 @@
 use Rattle.std.specs.Prelude.{◌≡◌, ℕ, ◌<◌, List, Bool, true, false, Option, Some, length, slice_get, slice_set}
 use Rattle.st_values.specs.Program.{Program}
 use Rattle.st_values.specs.Shape.{Shape, shape_within}
-use Rattle.st_initial.specs.declared.variables.Variable as held
-use Rattle.st_initial.specs.Members.{list_at}
+use Rattle.program_tables.specs.declared.st_initial.variables.Variable as held
+use Rattle.program_tables.specs.st_initial.Members.{list_at}
 use Rattle.mem_layout.specs.declared.sizes.Entry.{Entry}
 use Rattle.mem_layout.specs.declared.sizes.Tables.{Tables}
 use Rattle.mem_layout.specs.Private.Table.{list_of, named, members}

@@ -4,8 +4,8 @@ use Rattle.st_types.specs.declared.st_type.StType.{StType}
 use Rattle.st_types.specs.declared.st_type.StType.TheVariants as type
 use Rattle.st_values.specs.Program.{Variable, Program, class_variables}
 use Rattle.st_values.specs.Shape.{Shape, Structure, Instance, Fields, no_fields, field_then, shape_within}
-use Rattle.st_initial.specs.Variables.{fields_at}
-use Rattle.store_bytes.specs.Place.{gap, alignment, greatest, size}
+use Rattle.program_tables.specs.st_initial.Variables.{fields_at}
+use Rattle.mem_layout.specs.store_bytes.Place.{gap, alignment, greatest, size}
 use Rattle.mem_layout.specs.Layout.{IsSmall}
 use Rattle.mem_layout.specs.declared.sizes.Measure.{Measure}
 use Rattle.mem_layout.specs.declared.sizes.Field.{Field}

@@ -5,8 +5,8 @@ use Rattle.st_tree.specs.declared.path.Step.TheVariants as step
 use Rattle.st_values.specs.Program.{Program}
 use Rattle.st_values.specs.Shape.{Shape, Array, Structure, shape_within}
 use Rattle.st_values.specs.Value.{Step}
-use Rattle.store_bytes.specs.Place.{Place, size, part_place, inner_place}
-use Rattle.store_bytes.specs.PlaceLaws.{IsOwn}
+use Rattle.mem_layout.specs.store_bytes.Place.{Place, size, part_place, inner_place}
+use Rattle.mem_layout.specs.store_bytes.PlaceLaws.{IsOwn}
 use Rattle.mem_layout.specs.Layout.{IsSmall}
 use Rattle.mem_layout.specs.declared.sizes.Field.{Field}
 use Rattle.mem_layout.specs.declared.ways.Inward.{Inward}

@@ -3,7 +3,7 @@ use Rattle.std.specs.Prelude.{◌≡◌, ℕ, ◌<◌, ◌+◌, List, [], ◌∷
 use Rattle.cycle_journal.specs.declared.entry.Entry.{Entry}
 use Rattle.plant_rules.specs.Meaning.{Contents, Meaning, bytes_at}
 use Rattle.plant_rules.specs.History.{Past, Script, Legal, state_of, State, Turn, free, wanted_by, under_way, done, Writing, IsOpen}
-use Rattle.play_order.specs.Progress.{Standing}
+use Rattle.plant_core.specs.play_order.Progress.{Standing}
 use Rattle.plant_core.specs.declared.stage.Status.{Status}
 use Rattle.plant_core.specs.declared.stage.Ongoing.{Ongoing}
 use Rattle.plant_core.specs.Stage.{stage_of, turn_of, done_of, Room}

@@ -3,7 +3,7 @@ use Rattle.std.specs.Prelude.{◌≡◌, ℕ, ◌≤◌, ◌+◌, ◌*◌, List,
 use Rattle.cycle_journal.specs.declared.entry.Entry.{Entry}
 use Rattle.plant_rules.specs.Meaning.{Contents}
 use Rattle.plant_rules.specs.History.{Script}
-use Rattle.play_order.specs.Progress.{Standing, none_done}
+use Rattle.plant_core.specs.play_order.Progress.{Standing, none_done}
 use Rattle.plant_core.specs.declared.stage.Status.{Status}
 use Rattle.plant_core.specs.declared.stage.Status.TheVariants.{Idle, Done}
 use Rattle.plant_core.specs.declared.event.Event.{Event}

@@ -2,8 +2,8 @@
 use Rattle.std.specs.Prelude.{◌≡◌}
 use Rattle.st_tree.specs.declared.program.Program.{Program}
 use Rattle.st_values.specs.View.{program_of}
-use Rattle.st_initial.specs.Members as members
-use Rattle.st_initial.specs.declared.members.Members.{Members}
+use Rattle.program_tables.specs.st_initial.Members as members
+use Rattle.program_tables.specs.declared.st_initial.members.Members.{Members}
 use Rattle.routine_tables.specs.Tables.{Holds}
 use Rattle.routine_tables.specs.declared.tables.RoutineTables.{RoutineTables}
 

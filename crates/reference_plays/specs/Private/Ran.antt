@@ -2,7 +2,7 @@
 use Rattle.std.specs.Prelude.{◌≡◌, ℕ, List}
 use Rattle.cycle_journal.specs.declared.entry.Answer.{Answer}
 use Rattle.st_meaning.specs.Cycle.{cycle}
-use Rattle.st_frame.specs.Footprint.{IsFootprint}
+use Rattle.st_meaning.specs.st_frame.Footprint.{IsFootprint}
 use Rattle.st_change.specs.OneThread.{Controller, after_cycle, cycle_answer}
 
 -- the cycle of a task's footprint gives the answer and what is left

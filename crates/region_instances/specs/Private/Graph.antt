@@ -1,8 +1,8 @@
 -- The graph of what instances and structures hold.
 use Rattle.std.specs.Prelude.{ℕ, List, ◌++◌, map, filter_map}
-use Rattle.st_initial.specs.declared.members.Members.{Members}
-use Rattle.st_initial.specs.declared.variables.Variable as code
-use Rattle.st_initial.specs.Variables.{variables_of}
+use Rattle.program_tables.specs.declared.st_initial.members.Members.{Members}
+use Rattle.program_tables.specs.declared.st_initial.variables.Variable as code
+use Rattle.program_tables.specs.st_initial.Variables.{variables_of}
 use Rattle.st_values.specs.Program.{Variable}
 use Rattle.region_instances.specs.declared.held.Counts.{Counts}
 use Rattle.region_instances.specs.Private.Held.{node_of}

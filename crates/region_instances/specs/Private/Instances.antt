@@ -4,8 +4,8 @@ use Rattle.graph_reach.specs.Bits.{has_bit}
 use Rattle.graph_reach.specs.Reach.{AreReached}
 use Rattle.st_tree.specs.declared.program.Program.{Program as CheckedProgram}
 use Rattle.st_tree.specs.declared.program.RegionDecl.{RegionDecl}
-use Rattle.st_initial.specs.declared.members.Members.{Members}
-use Rattle.st_initial.specs.Members.{Holds}
+use Rattle.program_tables.specs.declared.st_initial.members.Members.{Members}
+use Rattle.program_tables.specs.st_initial.Members.{Holds}
 use Rattle.st_values.specs.View.{program_of}
 use Rattle.region_instances.specs.declared.held.Counts.{Counts}
 use Rattle.region_instances.specs.Private.Held.{node_of}

@@ -8,9 +8,9 @@ use Rattle.st_rules.specs.declared.asked.Asked.{Asked}
 use Rattle.st_rules.specs.Faults.{least, earlier}
 use Rattle.st_rules.specs.Scope.{Scope}
 use Rattle.st_rules.specs.Statements.{statements_faults, branches_faults, cases_faults, typed_statements, typed_branches, typed_cases}
-use Rattle.st_body_parts.specs.declared.found.CheckedStatements.{CheckedStatements}
-use Rattle.st_body_parts.specs.declared.found.CheckedBranches.{CheckedBranches}
-use Rattle.st_body_parts.specs.declared.found.CheckedCases.{CheckedCases}
+use Rattle.st_check_body.specs.declared.st_body_parts.found.CheckedStatements.{CheckedStatements}
+use Rattle.st_check_body.specs.declared.st_body_parts.found.CheckedBranches.{CheckedBranches}
+use Rattle.st_check_body.specs.declared.st_body_parts.found.CheckedCases.{CheckedCases}
 
 abbrev pub statements_onto : List (Statement Note) → Statements Note → Statements Note
 statements_onto [] rest = rest

@@ -8,9 +8,9 @@ use Rattle.st_rules.specs.Scope.{Scope}
 use Rattle.st_rules.specs.Places as places
 use Rattle.st_rules.specs.Places.{is_last, selector_faults}
 use Rattle.st_rules.specs.Expressions.{along_faults, typed_along, selector_index_faults, typed_selector}
-use Rattle.st_expr_parts.specs.Standing.{standing}
-use Rattle.st_expr_parts.specs.declared.along.Along.{Along}
-use Rattle.st_expr_parts.specs.declared.along.CheckedSelector.{CheckedSelector}
+use Rattle.check_nodes.specs.Standing.{standing}
+use Rattle.check_nodes.specs.declared.along.Along.{Along}
+use Rattle.check_nodes.specs.declared.along.CheckedSelector.{CheckedSelector}
 
 -- the least that one selector breaks, with its indices, and its typed tree
 pub record SelectorFinds (c : CheckedSelector) (s : Scope) (line : ℕ) (called : Bool) (b : places.Standing) (x : Selector ℕ) : Type 0 where

@@ -9,9 +9,9 @@ use Rattle.st_rules.specs.Scope.{Scope}
 use Rattle.st_rules.specs.Places.{root_faults, root_line, root_standing, whole_faults, target_faults, place_type}
 use Rattle.st_rules.specs.Calls.{Matched, asked_by, matched_type, output_unsuited}
 use Rattle.st_rules.specs.Expressions.{note, matched_target, index_faults, type_of, faults, given_unsuited, along_faults, argument_faults, typed, typed_root, typed_along, typed_indices, typed_arguments}
-use Rattle.st_expr_parts.specs.declared.lists.Indices.{Indices}
-use Rattle.st_expr_parts.specs.declared.lists.Arguments.{Arguments as SoFar}
-use Rattle.st_expr_parts.specs.declared.lists.CheckedArgument.{CheckedArgument}
+use Rattle.check_nodes.specs.declared.lists.Indices.{Indices}
+use Rattle.check_nodes.specs.declared.lists.Arguments.{Arguments as SoFar}
+use Rattle.check_nodes.specs.declared.lists.CheckedArgument.{CheckedArgument}
 
 -- ---- indices
 

@@ -11,10 +11,10 @@ use Rattle.st_rules.specs.Faults.{least, earlier}
 use Rattle.st_rules.specs.Literals.{number_asked}
 use Rattle.st_rules.specs.Scope.{Scope}
 use Rattle.st_rules.specs.Expressions.{is_untyped, front_asked, asked_behind, row_type, row_faults, typed_row}
-use Rattle.st_expr_parts.specs.declared.found.Checked.{Checked}
-use Rattle.st_expr_parts.specs.declared.rows.Row.{Row}
-use Rattle.st_expr_parts.specs.declared.rows.Ahead.{Ahead}
-use Rattle.st_expr_parts.specs.Found.{Checks}
+use Rattle.check_nodes.specs.declared.found.Checked.{Checked}
+use Rattle.check_nodes.specs.declared.rows.Row.{Row}
+use Rattle.check_nodes.specs.declared.rows.Ahead.{Ahead}
+use Rattle.check_nodes.specs.Found.{Checks}
 use Rattle.st_check_expr.specs.declared.walk.RowSoFar.{RowSoFar}
 
 -- ---- the operand that is checked ahead

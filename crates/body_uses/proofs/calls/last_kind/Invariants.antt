@@ -1,6 +1,6 @@
 use Rattle.std.proofs.Common.{◌≡◌, drop}
 use Rattle.st_tree.specs.Expression.{selectors_of}
-use Rattle.st_frame.specs.Use as words
+use Rattle.st_meaning.specs.st_frame.Use as words
 use Rattle.body_uses.proofs.calls.last_kind.Given as goal
 
 abbrev pub invariant-loop-selector : goal.invariant-loop-selector

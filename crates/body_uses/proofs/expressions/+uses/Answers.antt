@@ -1,7 +1,7 @@
 use Rattle.std.proofs.Common.{◌++◌, ap, ◌∙◌}
 use Rattle.st_tree.specs.Expression.{expression_of, arguments_of, tails_of}
 use Rattle.st_values.specs.View.{program_of}
-use Rattle.st_frame.specs.Use.{is_bound, expression_uses, tail_uses, argument_uses}
+use Rattle.st_meaning.specs.st_frame.Use.{is_bound, expression_uses, tail_uses, argument_uses}
 use Rattle.routine_tables.specs.Parameters.{parameters_of}
 use Rattle.body_uses.specs.Uses.{uses_of}
 use Rattle.body_uses.proofs.UseLaws.{place_goes, positional_goes, input_goes, output_goes, call_goes, call_arm, row_goes, field_goes, target_goes}

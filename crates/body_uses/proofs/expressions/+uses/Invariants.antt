@@ -1,7 +1,7 @@
 use Rattle.std.proofs.Common.{◌≡◌, ◌++◌, drop}
 use Rattle.st_tree.specs.Expression.{expressions_of, selectors_of, arguments_of, tails_of}
 use Rattle.st_values.specs.View.{program_of}
-use Rattle.st_frame.specs.Use.{along_uses, index_uses, tail_uses, argument_uses}
+use Rattle.st_meaning.specs.st_frame.Use.{along_uses, index_uses, tail_uses, argument_uses}
 use Rattle.routine_tables.specs.Parameters.{parameters_of}
 use Rattle.body_uses.specs.Uses.{uses_of}
 use Rattle.body_uses.proofs.expressions.+uses.Given as goal

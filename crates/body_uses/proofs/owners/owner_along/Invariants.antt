@@ -1,7 +1,7 @@
 use Rattle.std.proofs.Common.{◌≡◌, drop}
 use Rattle.st_tree.specs.Expression.{selectors_of}
 use Rattle.st_meaning.specs.Place.{root_note}
-use Rattle.st_frame.specs.Use as words
+use Rattle.st_meaning.specs.st_frame.Use as words
 use Rattle.body_uses.specs.Private.Uses.{owner_if}
 use Rattle.body_uses.proofs.owners.owner_along.Given as goal
 

@@ -1,7 +1,7 @@
 use Rattle.std.proofs.Common.{◌≡◌, ◌++◌, drop}
 use Rattle.st_tree.specs.Statement.{statements_of, branches_of, cases_of}
 use Rattle.st_values.specs.View.{program_of}
-use Rattle.st_frame.specs.Use.{body_uses, branch_uses, case_uses}
+use Rattle.st_meaning.specs.st_frame.Use.{body_uses, branch_uses, case_uses}
 use Rattle.body_uses.specs.Uses.{uses_of}
 use Rattle.body_uses.proofs.statements.+statements.Given as goal
 

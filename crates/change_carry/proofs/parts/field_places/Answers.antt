@@ -1,5 +1,5 @@
 use Rattle.std.proofs.Common.{◌≡◌, arith}
-use Rattle.change_pairs.proofs.PlaceLaws.{from_all}
+use Rattle.change_names.proofs.change_pairs.PlaceLaws.{from_all}
 use Rattle.change_carry.proofs.PartLaws.{has_name, fields_placed}
 use Rattle.change_carry.proofs.parts.field_places.Goals as goal
 

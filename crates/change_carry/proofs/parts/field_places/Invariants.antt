@@ -1,4 +1,4 @@
-use Rattle.change_pairs.proofs.PlaceLaws.{FromHere}
+use Rattle.change_names.proofs.change_pairs.PlaceLaws.{FromHere}
 use Rattle.change_carry.proofs.PartLaws.{has_name}
 use Rattle.change_carry.proofs.parts.field_places.Given as goal
 

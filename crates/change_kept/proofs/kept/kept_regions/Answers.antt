@@ -1,6 +1,6 @@
 use Rattle.std.proofs.Common.{arith}
 use Rattle.st_values.specs.View.{program_of}
-use Rattle.change_paths.proofs.SoFarLaws.{all_so_far}
+use Rattle.change_names.proofs.change_paths.SoFarLaws.{all_so_far}
 use Rattle.change_kept.proofs.KeptLaws.{Tells, past_tells}
 use Rattle.change_kept.proofs.kept.kept_regions.Goals as goal
 

@@ -1,5 +1,5 @@
 use Rattle.st_values.specs.View.{program_of}
-use Rattle.change_paths.proofs.SoFarLaws.{SoFar}
+use Rattle.change_names.proofs.change_paths.SoFarLaws.{SoFar}
 use Rattle.change_kept.proofs.KeptLaws.{Tells}
 use Rattle.change_kept.proofs.kept.kept_regions.Given as goal
 

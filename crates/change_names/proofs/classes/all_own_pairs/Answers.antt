@@ -2,7 +2,7 @@ use Rattle.std.proofs.Common.{sym, ap, ◌∙◌, arith}
 use Rattle.st_change.specs.From.{own_pairs}
 use Rattle.st_values.specs.Program.{class_at}
 use Rattle.st_values.specs.View.{program_of}
-use Rattle.change_pairs.specs.Pairs.{pairs_of}
+use Rattle.change_names.specs.change_pairs.Pairs.{pairs_of}
 use Rattle.change_names.specs.Private.Classes.{pairs_in}
 use Rattle.change_names.proofs.ClassLaws.{past_none}
 use Rattle.change_names.proofs.ListLaws.{one_shown, all_shown}

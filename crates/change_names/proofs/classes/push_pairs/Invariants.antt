@@ -1,5 +1,5 @@
 use Rattle.std.proofs.Common.{◌≡◌, ◌++◌, drop}
-use Rattle.change_pairs.specs.Pairs.{pairs_of}
+use Rattle.change_names.specs.change_pairs.Pairs.{pairs_of}
 use Rattle.change_names.proofs.classes.push_pairs.Given as goal
 
 -- what was added, and what the rest gives, is the whole

@@ -1,7 +1,7 @@
 use Rattle.std.proofs.Common.{ap, ◌∙◌, arith}
 use Rattle.st_values.specs.Program.{class_at, own_of}
 use Rattle.st_values.specs.View.{program_of}
-use Rattle.st_initial.specs.Variables.{variables_of}
+use Rattle.program_tables.specs.st_initial.Variables.{variables_of}
 use Rattle.change_names.specs.Private.Classes.{listed_at}
 use Rattle.change_names.proofs.ClassLaws.{no_own_past}
 use Rattle.change_names.proofs.ListLaws.{one_shown, all_shown}

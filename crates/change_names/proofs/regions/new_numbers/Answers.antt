@@ -1,8 +1,8 @@
 use Rattle.std.proofs.Common.{sym, ◌∙◌}
 use Rattle.std.specs.Prelude.{option_and_then}
 use Rattle.st_change.specs.From.{new_name}
-use Rattle.change_pairs.specs.Places.{found_in}
-use Rattle.change_pairs.specs.Regions.{region_of}
+use Rattle.change_names.specs.change_pairs.Places.{found_in}
+use Rattle.change_names.specs.change_pairs.Regions.{region_of}
 use Rattle.change_names.proofs.ListLaws.{all_mapped, map_map}
 use Rattle.change_names.proofs.regions.new_numbers.Goals as goal
 

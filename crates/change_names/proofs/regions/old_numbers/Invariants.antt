@@ -1,7 +1,7 @@
 use Rattle.std.specs.Prelude.{option_and_then}
 use Rattle.st_change.specs.From.{old_name}
-use Rattle.change_pairs.specs.Places.{found_in}
-use Rattle.change_pairs.specs.Regions.{region_of}
+use Rattle.change_names.specs.change_pairs.Places.{found_in}
+use Rattle.change_names.specs.change_pairs.Regions.{region_of}
 use Rattle.change_names.proofs.ListLaws.{MappedTo}
 use Rattle.change_names.proofs.regions.old_numbers.Given as goal
 

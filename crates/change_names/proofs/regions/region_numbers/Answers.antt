@@ -2,9 +2,9 @@ use Rattle.std.proofs.Common.{List, map, ap, ap₂, ◌∙◌, subst}
 use Rattle.std.specs.Prelude.{option_and_then}
 use Rattle.st_change.specs.From.{old_name, new_name, region_from, region_pairs_by, names_of_regions}
 use Rattle.st_values.specs.View.{program_of}
-use Rattle.change_pairs.specs.declared.regions.Placed.{Placed}
-use Rattle.change_pairs.specs.Places.{found_in}
-use Rattle.change_pairs.specs.Regions.{regions_of}
+use Rattle.change_names.specs.declared.change_pairs.regions.Placed.{Placed}
+use Rattle.change_names.specs.change_pairs.Places.{found_in}
+use Rattle.change_names.specs.change_pairs.Regions.{regions_of}
 use Rattle.change_names.specs.Private.Places.{ArePlacesOf}
 use Rattle.change_names.proofs.RegionLaws.{pairs_are, numbers_are}
 use Rattle.change_names.proofs.regions.region_numbers.Goals as goal

@@ -1,7 +1,7 @@
 use Rattle.std.proofs.Common.{◌≡◌, ap, ◌∙◌, arith}
 use Rattle.plc_text.specs.Words.{same}
 use Rattle.st_rules.specs.Named.{first_place}
-use Rattle.change_pairs.proofs.PlaceLaws.{from_all}
+use Rattle.change_names.proofs.change_pairs.PlaceLaws.{from_all}
 use Rattle.change_names.proofs.ListLaws.{by_names}
 use Rattle.change_names.proofs.RegionLaws.{names_by}
 use Rattle.change_names.proofs.regions.region_places.Goals as goal

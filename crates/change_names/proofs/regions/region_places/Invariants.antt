@@ -1,5 +1,5 @@
 use Rattle.plc_text.specs.Words.{same}
-use Rattle.change_pairs.proofs.PlaceLaws.{FromHere}
+use Rattle.change_names.proofs.change_pairs.PlaceLaws.{FromHere}
 use Rattle.change_names.proofs.regions.region_places.Given as goal
 
 abbrev pub invariant-regions : goal.invariant-regions

@@ -1,5 +1,5 @@
 use Rattle.st_values.specs.View.{region_of}
-use Rattle.change_pairs.specs.Regions.{regions_of}
+use Rattle.change_names.specs.change_pairs.Regions.{regions_of}
 use Rattle.change_names.proofs.ListLaws.{MappedTo}
 use Rattle.change_names.proofs.regions.regions.Given as goal
 

@@ -1,8 +1,8 @@
 use Rattle.std.proofs.Common.{ap, ◌∙◌}
 use Rattle.std.specs.Prelude.{option_map}
-use Rattle.st_initial.specs.Variables.{variables_of}
+use Rattle.program_tables.specs.st_initial.Variables.{variables_of}
 use Rattle.st_values.specs.View.{program_of}
-use Rattle.change_pairs.specs.Pairs.{pairs_of}
+use Rattle.change_names.specs.change_pairs.Pairs.{pairs_of}
 use Rattle.change_names.specs.Private.Classes.{listed_at}
 use Rattle.change_names.proofs.StructureLaws.{pairs_with, pairs_none}
 use Rattle.change_names.proofs.structures.pairs_named.Goals as goal

@@ -1,6 +1,6 @@
 use Rattle.std.proofs.Common.{◌≡◌, ◌∙◌, arith}
 use Rattle.plc_text.specs.Words.{same}
-use Rattle.change_pairs.proofs.PlaceLaws.{from_all}
+use Rattle.change_names.proofs.change_pairs.PlaceLaws.{from_all}
 use Rattle.change_names.proofs.ListLaws.{by_names}
 use Rattle.change_names.proofs.structures.type_places.Goals as goal
 

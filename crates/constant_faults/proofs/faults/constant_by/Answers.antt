@@ -1,7 +1,7 @@
 use Rattle.std.proofs.Common.{ℕ, Option, ap, ◌∙◌}
 use Rattle.plc_text.specs.declared.code.Code.{Code}
 use Rattle.st_rules.specs.Faults.{earlier}
-use Rattle.constant_values.specs.Outcome.{outcome}
+use Rattle.constant_folding.specs.constant_values.Outcome.{outcome}
 use Rattle.constant_faults.specs.Private.Found.{number_found}
 use Rattle.constant_faults.proofs.faults.constant_by.Goals as goal
 

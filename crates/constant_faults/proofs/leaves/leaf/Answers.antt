@@ -1,6 +1,6 @@
 use Rattle.std.proofs.Common.{ap, ◌∙◌}
 use Rattle.st_tree.specs.Expression.{expression_of}
-use Rattle.constant_values.specs.Noted.{noted_value}
+use Rattle.constant_folding.specs.constant_values.Noted.{noted_value}
 use Rattle.constant_faults.proofs.LeafLaws.{leaf_value}
 use Rattle.constant_faults.proofs.leaves.leaf.Goals as goal
 

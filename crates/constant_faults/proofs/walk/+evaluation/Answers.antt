@@ -1,5 +1,5 @@
 use Rattle.std.proofs.Common.{refl, ap, ◌∙◌}
-use Rattle.declared_names.specs.Constants.{converted_value}
+use Rattle.st_unit_rules.specs.declared_names.Constants.{converted_value}
 use Rattle.st_check_expr.specs.CalleeWords.{called}
 use Rattle.constant_faults.proofs.AheadSteps.{looks_nowhere}
 use Rattle.constant_faults.proofs.LoopSteps.{looks_here, steps_to, end_arm}

@@ -1,6 +1,6 @@
 use Rattle.std.proofs.Common.{◌++◌, ap, ◌∙◌}
 use Rattle.std.specs.Prelude.{flat_map}
-use Rattle.declared_names.specs.Variables.{sections_written, sections_in}
+use Rattle.st_unit_rules.specs.declared_names.Variables.{sections_written, sections_in}
 use Rattle.declared_graph.specs.Private.Known.{declared}
 use Rattle.declared_graph.specs.Private.Edges.{edges_to}
 use Rattle.declared_graph.specs.Private.Contained.{name_places}

@@ -1,5 +1,5 @@
 use Rattle.std.proofs.Common.{List, Bool, map, subst, sym, ◌∙◌}
-use Rattle.declaration_list.specs.Written.{written_of}
+use Rattle.st_unit_rules.specs.declaration_list.Written.{written_of}
 use Rattle.declared_graph.specs.Private.Inner.{OnCycles}
 use Rattle.declared_graph.proofs.InnerLaws.{cycles_are}
 use Rattle.declared_graph.proofs.inner.inner_cycles_fault.Goals as goal

@@ -1,6 +1,6 @@
 use Rattle.std.proofs.Common.{◌≡◌, ◌≤◌, ℕ, List, map, drop, length}
 use Rattle.st_unit_rules.specs.Cycles.{place_from}
-use Rattle.declaration_list.specs.Listed.{declared_as}
+use Rattle.st_unit_rules.specs.declaration_list.Listed.{declared_as}
 use Rattle.declared_graph.specs.Private.Known.{found_in, passes}
 use Rattle.declared_graph.proofs.known.places.Given as goal
 

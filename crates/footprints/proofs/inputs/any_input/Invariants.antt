@@ -1,5 +1,5 @@
 use Rattle.std.proofs.Common.{◌≡◌, drop}
-use Rattle.st_initial.specs.Variables.{variables_of}
+use Rattle.program_tables.specs.st_initial.Variables.{variables_of}
 use Rattle.footprints.specs.Private.Inputs.{any_input}
 use Rattle.footprints.proofs.inputs.any_input.Given as goal
 

@@ -1,5 +1,5 @@
 use Rattle.std.proofs.Common.{length}
-use Rattle.st_frame.specs.Footprint.{Has}
+use Rattle.st_meaning.specs.st_frame.Footprint.{Has}
 use Rattle.footprints.specs.Private.Holders.{holders_at}
 use Rattle.footprints.specs.Private.Puts.{Takes}
 use Rattle.footprints.proofs.marks.put_classes.Given as goal

@@ -1,8 +1,8 @@
 use Rattle.std.proofs.Common.{ℕ, List, sym, ◌∙◌, subst}
 use Rattle.st_values.specs.View.{program_of}
 use Rattle.std.specs.HashSet.{contains}
-use Rattle.st_frame.specs.Footprint.{Has}
-use Rattle.reached_routines.specs.Families.{same_family}
+use Rattle.st_meaning.specs.st_frame.Footprint.{Has}
+use Rattle.footprints.specs.reached_routines.Families.{same_family}
 use Rattle.footprints.specs.Private.Holders.{holders_at}
 use Rattle.footprints.specs.Private.Puts.{Puts, Via}
 use Rattle.footprints.proofs.WalkLaws.{not_fresh, kind_found, kind_known, followed_more}

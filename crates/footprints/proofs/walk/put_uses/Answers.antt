@@ -1,6 +1,6 @@
 use Rattle.st_values.specs.View.{program_of}
-use Rattle.reached_routines.specs.Uses.{use_of}
-use Rattle.reached_routines.proofs.EnterLaws.{uses_left}
+use Rattle.footprints.specs.reached_routines.Uses.{use_of}
+use Rattle.footprints.proofs.reached_routines.EnterLaws.{uses_left}
 use Rattle.footprints.proofs.PutLaws.{next}
 use Rattle.footprints.proofs.WalkLaws.{use_put}
 use Rattle.footprints.proofs.walk.put_uses.Goals as goal

@@ -1,6 +1,6 @@
 use Rattle.std.proofs.Common.{refl}
 use Rattle.st_unit_rules.specs.DeclarationRules.{unit}
-use Rattle.declaration_list.specs.Written.{written_of}
+use Rattle.st_unit_rules.specs.declaration_list.Written.{written_of}
 use Rattle.global_rules.proofs.GlobalLaws.{global_least}
 use Rattle.global_rules.proofs.RegionLaws.{has_region, regions_more}
 use Rattle.global_rules.proofs.globals.check_global.Goals as goal

@@ -1,5 +1,5 @@
 use Rattle.std.proofs.Common.{refl}
-use Rattle.declaration_list.specs.Written.{written_of}
+use Rattle.st_unit_rules.specs.declaration_list.Written.{written_of}
 use Rattle.global_rules.proofs.RegionLaws.{all_marks, other_marks}
 use Rattle.global_rules.proofs.regions.marks_of.Goals as goal
 

@@ -1,5 +1,5 @@
 use Rattle.global_rules.proofs.SectionLaws.{one_more}
-use Rattle.declaration_list.specs.Written.{global_of}
+use Rattle.st_unit_rules.specs.declaration_list.Written.{global_of}
 use Rattle.global_rules.proofs.sections.add_global.Goals as goal
 
 pub returns : goal.returns

@@ -1,4 +1,4 @@
-use Rattle.declaration_list.specs.Written.{names_in_item}
+use Rattle.st_unit_rules.specs.declaration_list.Written.{names_in_item}
 use Rattle.global_rules.proofs.SectionLaws.{adds_begun, adds_next, adds_ended, section_added}
 use Rattle.global_rules.proofs.sections.add_section.Goals as goal
 

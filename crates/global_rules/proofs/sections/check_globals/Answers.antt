@@ -1,4 +1,4 @@
-use Rattle.declaration_list.specs.Written.{names_in_section}
+use Rattle.st_unit_rules.specs.declaration_list.Written.{names_in_section}
 use Rattle.global_rules.proofs.SectionLaws.{adds_begun, adds_next, adds_ended}
 use Rattle.global_rules.proofs.sections.check_globals.Goals as goal
 

@@ -1,4 +1,4 @@
-use Rattle.declaration_list.specs.Written.{names_in_section}
+use Rattle.st_unit_rules.specs.declaration_list.Written.{names_in_section}
 use Rattle.global_rules.proofs.SectionLaws.{AddsTo}
 use Rattle.global_rules.proofs.sections.check_globals.Given as goal
 

@@ -1,14 +1,14 @@
 use Rattle.std.proofs.Common.{◌-◌, Some, sym, ap, ◌∙◌, option_map}
 use Rattle.st_tree.specs.Initial.{fields_of}
 use Rattle.st_values.specs.View.{program_of}
-use Rattle.st_initial.specs.Given.{inits_of}
-use Rattle.st_initial.specs.Members.{items_at}
-use Rattle.st_initial.specs.Variables.{variables_of}
+use Rattle.program_tables.specs.st_initial.Given.{inits_of}
+use Rattle.program_tables.specs.st_initial.Members.{items_at}
+use Rattle.program_tables.specs.st_initial.Variables.{variables_of}
 use Rattle.st_values.specs.Shape.{extent}
 use Rattle.value_trees.specs.Value.{value_of, values_of}
 use Rattle.initial_trees.specs.Private.Trees.{given_by, value_within, members_within, elements_within, array_within}
 use Rattle.initial_trees.proofs.ListLaws.{elements_next, members_next, members_ended, elements_ended}
-use Rattle.st_initial.proofs.WalkLaws.{positive}
+use Rattle.program_tables.proofs.st_initial.WalkLaws.{positive}
 use Rattle.initial_trees.proofs.LevelLaws.{elementary_value, enumeration_value, reference_value, interface_value, array_value, structure_value, instance_value}
 use Rattle.initial_trees.proofs.StepLaws.{number_found, null_found, array_seen, no_array_seen, none_needed, array_found, structure_found, instance_found}
 use Rattle.initial_trees.proofs.trees.+trees.Goals as goal

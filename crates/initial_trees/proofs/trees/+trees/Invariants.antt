@@ -1,7 +1,7 @@
 use Rattle.std.proofs.Common.{◌+◌, ◌*◌}
 use Rattle.st_tree.specs.Initial.{fields_of}
 use Rattle.st_values.specs.View.{program_of}
-use Rattle.st_initial.specs.Given.{inits_of}
+use Rattle.program_tables.specs.st_initial.Given.{inits_of}
 use Rattle.initial_trees.proofs.ListLaws.{MembersLeft, ElementsLeft}
 use Rattle.initial_trees.proofs.trees.+trees.Given as goal
 

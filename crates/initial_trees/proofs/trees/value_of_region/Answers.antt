@@ -2,7 +2,7 @@ use Rattle.std.proofs.Common.{sym, ap, ◌∙◌, option_map}
 use Rattle.st_tree.specs.Initial.{initial_of}
 use Rattle.st_values.specs.View.{program_of, initial_in}
 use Rattle.value_trees.specs.Value.{value_of, value-Number}
-use Rattle.st_initial.proofs.WalkLaws.{given_copied}
+use Rattle.program_tables.proofs.st_initial.WalkLaws.{given_copied}
 use Rattle.initial_trees.specs.Private.Trees.{value_within}
 use Rattle.initial_trees.proofs.LevelLaws.{no_value}
 use Rattle.initial_trees.proofs.trees.value_of_region.Goals as goal

@@ -1,9 +1,9 @@
 use Rattle.std.proofs.Common.{◌+◌, refl, subst, drop}
 use Rattle.std.specs.Prelude.{IfSome, IsSome}
 use Rattle.st_values.specs.Shape.{no_fields, field_then}
-use Rattle.st_initial.specs.Variables.{variable_of, variables_of}
-use Rattle.store_bytes.specs.Place.{gap, ending}
-use Rattle.store_bytes.specs.PlaceLaws.{joined}
+use Rattle.program_tables.specs.st_initial.Variables.{variable_of, variables_of}
+use Rattle.mem_layout.specs.store_bytes.Place.{gap, ending}
+use Rattle.mem_layout.specs.store_bytes.PlaceLaws.{joined}
 use Rattle.mem_layout.specs.Private.Table.{start, wide}
 use Rattle.mem_layout.specs.Private.Entry.{IsLaid, Going}
 use Rattle.mem_layout.proofs.EntryLaws.{variables_cut, variables_done, going_on, going_last, has_room}

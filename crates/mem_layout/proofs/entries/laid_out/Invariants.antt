@@ -1,7 +1,7 @@
 use Rattle.std.proofs.Common.{◌≡◌, ℕ, Some, drop}
 use Rattle.st_values.specs.Program.{Program}
 use Rattle.st_values.specs.Shape.{Fields, fields_by, shape_within}
-use Rattle.st_initial.specs.Variables.{variables_of}
+use Rattle.program_tables.specs.st_initial.Variables.{variables_of}
 use Rattle.mem_layout.specs.Private.Table.{AreTables, start}
 use Rattle.mem_layout.specs.Private.Entry.{Going}
 use Rattle.mem_layout.proofs.entries.laid_out.Given as goal

@@ -1,5 +1,5 @@
 use Rattle.std.proofs.Common.{None, Some, refl, sym, subst}
-use Rattle.store_bytes.specs.Place.{part_place}
+use Rattle.mem_layout.specs.store_bytes.Place.{part_place}
 use Rattle.mem_layout.specs.Layout.{told}
 use Rattle.mem_layout.specs.Private.Place.{LeadsAt}
 use Rattle.mem_layout.proofs.PlaceLaws.{array_is, array_leads, array_missing}

@@ -1,5 +1,5 @@
 use Rattle.std.proofs.Common.{◌≡◌, ◌++◌, drop}
-use Rattle.st_initial.specs.Variables.{variables_of}
+use Rattle.program_tables.specs.st_initial.Variables.{variables_of}
 use Rattle.st_meaning.specs.ProcessImage.{located_variables}
 use Rattle.process_image.specs.Located.{all_seen}
 use Rattle.process_image.proofs.located.push_variables.Given as goal

@@ -5,9 +5,9 @@ use Rattle.st_tree.specs.declared.path.Step.TheVariants as step
 use Rattle.st_types.specs.declared.st_type.StType.{StType}
 use Rattle.st_values.specs.Shape.{extent}
 use Rattle.st_values.specs.View.{program_of}
-use Rattle.st_initial.specs.Members.{items_at}
-use Rattle.st_initial.specs.Variables.{variables_of}
-use Rattle.st_initial.proofs.WalkLaws.{positive}
+use Rattle.program_tables.specs.st_initial.Members.{items_at}
+use Rattle.program_tables.specs.st_initial.Variables.{variables_of}
+use Rattle.program_tables.proofs.st_initial.WalkLaws.{positive}
 use Rattle.st_change.specs.Instances.{further}
 use Rattle.reference_start.specs.Private.Instances.{AddsElements, AddsType}
 use Rattle.reference_start.proofs.InstanceLaws.{adds_elementary, adds_enumeration, adds_reference, adds_interface, adds_array, adds_structure, adds_instance, fields_next, elements_next, ElementsLeft}

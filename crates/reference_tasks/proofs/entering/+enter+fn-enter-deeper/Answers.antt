@@ -1,5 +1,5 @@
 use Rattle.std.proofs.Common.{map, arith}
-use Rattle.st_initial.proofs.WalkLaws.{positive}
+use Rattle.program_tables.proofs.st_initial.WalkLaws.{positive}
 use Rattle.st_values.specs.View.{program_of}
 use Rattle.reference_bodies.specs.Opening.{given_of}
 use Rattle.program_tables.specs.Routine.{routine_of}

@@ -1,6 +1,6 @@
 use Rattle.std.proofs.Common.{map, sym, ap, ◌∙◌}
 use Rattle.st_tree.specs.declared.program.Program.{Program}
-use Rattle.st_initial.specs.Variables.{variables_of}
+use Rattle.program_tables.specs.st_initial.Variables.{variables_of}
 use Rattle.st_values.specs.View.{program_of}
 use Rattle.reference_bodies.specs.Opening.{given_of, opened}
 use Rattle.reference_bodies.specs.Tables.{locals_in}

@@ -1,5 +1,5 @@
 use Rattle.std.proofs.Common.{◌≡◌, ◌++◌, drop}
-use Rattle.st_initial.specs.Variables.{variables_of}
+use Rattle.program_tables.specs.st_initial.Variables.{variables_of}
 use Rattle.region_instances.specs.Private.Graph.{nodes_of}
 use Rattle.region_instances.proofs.graph.nodes.Given as goal
 

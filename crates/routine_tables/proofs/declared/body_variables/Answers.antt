@@ -5,7 +5,7 @@ use Rattle.st_rules.specs.Classes.{chain}
 use Rattle.st_values.specs.Program.{class_at, chain_of}
 use Rattle.st_values.specs.View as view
 use Rattle.st_values.specs.View.{program_of}
-use Rattle.st_initial.specs.Variables.{variables_of}
+use Rattle.program_tables.specs.st_initial.Variables.{variables_of}
 use Rattle.program_tables.proofs.ClassLaws.{class_climbs}
 use Rattle.routine_tables.proofs.EntryLaws.{variables_of_class, variables_of_program}
 use Rattle.routine_tables.specs.Private.Declared.{program_declared}

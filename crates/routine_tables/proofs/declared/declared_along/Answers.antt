@@ -1,6 +1,6 @@
 use Rattle.std.proofs.Common.{◌≡◌, reverse, drop, ap, ◌∙◌, arith}
 use Rattle.st_values.specs.View as view
-use Rattle.st_initial.specs.Variables.{variables_of}
+use Rattle.program_tables.specs.st_initial.Variables.{variables_of}
 use Rattle.routine_tables.proofs.DeclaredLaws.{along_down}
 use Rattle.routine_tables.proofs.declared.declared_along.Goals as goal
 

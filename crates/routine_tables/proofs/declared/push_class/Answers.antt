@@ -1,7 +1,7 @@
 use Rattle.std.proofs.Common.{◌++◌, ap, ◌∙◌}
 use Rattle.std.specs.Prelude.{slice_get}
 use Rattle.st_values.specs.View.{variables_in, sections_in}
-use Rattle.st_initial.specs.Variables.{variables_of}
+use Rattle.program_tables.specs.st_initial.Variables.{variables_of}
 use Rattle.routine_tables.proofs.DeclaredLaws.{declared_is}
 use Rattle.routine_tables.proofs.declared.push_class.Goals as goal
 

@@ -1,5 +1,5 @@
 use Rattle.std.proofs.Common.{ap, sym, ◌∙◌}
-use Rattle.st_initial.specs.Variables.{variables_of}
+use Rattle.program_tables.specs.st_initial.Variables.{variables_of}
 use Rattle.routine_tables.specs.Parameters.{parameters_of}
 use Rattle.routine_tables.specs.Private.Declared as declared
 use Rattle.routine_tables.proofs.EntryLaws.{function_parameters, function_locals, no_function_parameters, no_function_locals}

@@ -1,5 +1,5 @@
 use Rattle.std.proofs.Common.{ap, sym, ◌∙◌, Some, None, ◌≡◌}
-use Rattle.st_initial.specs.Variables.{variables_of}
+use Rattle.program_tables.specs.st_initial.Variables.{variables_of}
 use Rattle.program_tables.specs.Routine.{method_at}
 use Rattle.routine_tables.specs.Parameters.{parameters_of}
 use Rattle.routine_tables.specs.Private.Declared as declared

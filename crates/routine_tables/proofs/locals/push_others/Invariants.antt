@@ -1,6 +1,6 @@
 use Rattle.std.proofs.Common.{◌≡◌, ◌++◌, drop}
 use Rattle.st_values.specs.View as view
-use Rattle.st_initial.specs.Variables.{variables_of}
+use Rattle.program_tables.specs.st_initial.Variables.{variables_of}
 use Rattle.routine_tables.proofs.locals.push_others.Given as goal
 
 -- what was added, and what the rest gives, is the whole

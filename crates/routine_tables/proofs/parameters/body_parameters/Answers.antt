@@ -1,7 +1,7 @@
 use Rattle.std.proofs.Common.{◌+◌, ◌++◌, drop, refl, sym, ap, ◌∙◌}
 use Rattle.st_rules.proofs.ListLaws.{drop-at}
 use Rattle.st_values.specs.View as view
-use Rattle.st_initial.specs.Variables.{variable_of, variables_of}
+use Rattle.program_tables.specs.st_initial.Variables.{variable_of, variables_of}
 use Rattle.routine_tables.specs.Parameters.{parameters_of}
 use Rattle.routine_tables.proofs.parameters.body_parameters.Goals as goal
 

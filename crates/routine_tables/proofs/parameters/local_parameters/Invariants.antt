@@ -1,6 +1,6 @@
 use Rattle.std.proofs.Common.{◌≡◌, ◌++◌, drop}
 use Rattle.st_values.specs.View as view
-use Rattle.st_initial.specs.Variables.{variables_of}
+use Rattle.program_tables.specs.st_initial.Variables.{variables_of}
 use Rattle.routine_tables.specs.Parameters.{parameters_of}
 use Rattle.routine_tables.proofs.parameters.local_parameters.Given as goal
 

@@ -1,7 +1,7 @@
 use Rattle.std.proofs.Common.{◌≡◌, sym, ap, ◌∙◌, refl, Some, to_z, of_z, rules, option_map}
 use Rattle.std.specs.Int.{w128}
-use Rattle.st_initial.specs.Members.{items_at}
-use Rattle.st_initial.specs.Variables.{variables_of}
+use Rattle.program_tables.specs.st_initial.Members.{items_at}
+use Rattle.program_tables.specs.st_initial.Variables.{variables_of}
 use Rattle.st_values.specs.Shape.{shape_within}
 use Rattle.st_values.specs.View.{program_of}
 use Rattle.shape_trees.proofs.UnfoldLaws.{found_elementary, array_level, structure_level, instance_level, fields_next, fields_stopped, fields_ended, no_variables, of_variables}

@@ -1,6 +1,6 @@
 use Rattle.std.proofs.Common.{drop, refl, sym, ap, ◌∙◌}
 use Rattle.st_tree.specs.Expression.{expression_of, expression_of-Int, expression_of-Typed, expression_of-Time, expression_of-True, expression_of-False, expression_of-Null, expression_of-Enumerator, expression_of-Now}
-use Rattle.st_expr_parts.specs.Slots.{slots}
+use Rattle.check_nodes.specs.Slots.{slots}
 use Rattle.st_check_expr.specs.Private.Rows.{row_rest}
 use Rattle.st_check_expr.specs.Private.Along.{along_rest}
 use Rattle.st_check_expr.specs.Private.Lists.{index_rest, argument_rest}

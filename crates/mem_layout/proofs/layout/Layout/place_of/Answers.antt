@@ -1,7 +1,7 @@
 use Rattle.std.proofs.Common.{◌≡◌, None, sym, ap, ◌∙◌, subst}
 use Rattle.std.specs.Prelude.{MatchOption}
 use Rattle.st_values.specs.Shape.{region_shape}
-use Rattle.store_bytes.specs.Place.{inner_place, place_of}
+use Rattle.mem_layout.specs.store_bytes.Place.{inner_place, place_of}
 use Rattle.mem_layout.specs.Layout.{IsPlace}
 use Rattle.mem_layout.specs.Private.Place.{offset_of}
 use Rattle.st_values.specs.View.{program_of}

@@ -3,7 +3,7 @@ use Rattle.std.proofs.lemmas.List.{map-append, length-map}
 use Rattle.std.specs.Arc.{arc_value}
 use Rattle.plant_rules.specs.Meaning.{Rising}
 use Rattle.plant_rules.specs.History.{at_play, open_by, now_of, input_of, begun}
-use Rattle.plant_history.proofs.Running.{idle_done}
+use Rattle.plant_rules.proofs.plant_history.Running.{idle_done}
 use Rattle.plant_core.proofs.Stages.{onward}
 use Rattle.plant_core.proofs.CycleLaws.{kept_begun}
 use Rattle.plant_core.proofs.CauseLaws.{at_once, room_of, view_more, kit_there, kit_good, ready_of, claimed_of, entry_play, take_by, taken_by}

@@ -1,7 +1,7 @@
 use Rattle.std.proofs.Common.{◌<◌, ◌∙◌, ap, sym, subst, ℕ, arith}
 use Rattle.std.proofs.lemmas.List.{map-append, length-map}
 use Rattle.plant_rules.specs.History.{denied}
-use Rattle.plant_history.proofs.Running.{idle_done}
+use Rattle.plant_rules.proofs.plant_history.Running.{idle_done}
 use Rattle.plant_core.proofs.Stages.{onward}
 use Rattle.plant_core.proofs.Events.{kept_denied}
 use Rattle.plant_core.proofs.CauseLaws.{at_once, room_of, version_is, view_more, entry_play}

@@ -3,8 +3,8 @@ use Rattle.std.proofs.lemmas.List.{map-append, length-map}
 use Rattle.std.specs.Arc.{arc_value}
 use Rattle.plant_rules.specs.Meaning.{Rising}
 use Rattle.plant_rules.specs.History.{finished}
-use Rattle.plant_history.proofs.Running.{done_open}
-use Rattle.plant_moves.specs.Moves.{MayMove}
+use Rattle.plant_rules.proofs.plant_history.Running.{done_open}
+use Rattle.plant_core.specs.plant_moves.Moves.{MayMove}
 use Rattle.plant_core.proofs.Stages.{onward}
 use Rattle.plant_core.proofs.CycleLaws.{finished_others, kept_ended, spare_again}
 use Rattle.plant_core.proofs.CauseLaws.{at_once, room_of, version_is, view_more, may_come, task_there, entry_play, open_no_change, place_low, held_ended, moved_by}

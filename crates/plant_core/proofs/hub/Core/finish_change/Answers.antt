@@ -2,7 +2,7 @@ use Rattle.std.proofs.Common.{◌≡◌, ◌<◌, ◌∙◌, ap, sym, subst, ref
 use Rattle.std.proofs.lemmas.List.{map-append, length-map}
 use Rattle.std.specs.Arc.{arc_value}
 use Rattle.plant_rules.specs.History.{state_of}
-use Rattle.plant_history.proofs.Running.{idle_done}
+use Rattle.plant_rules.proofs.plant_history.Running.{idle_done}
 use Rattle.plant_core.proofs.Stages.{onward}
 use Rattle.plant_core.proofs.Events.{kept_changed}
 use Rattle.plant_core.proofs.CauseLaws.{at_once, room_of, version_is, view_more, home_empty, changing_idle, entry_play, follows_changed}

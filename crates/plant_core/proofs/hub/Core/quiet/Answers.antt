@@ -1,7 +1,7 @@
 use Rattle.std.proofs.Common.{◌∙◌, ap, sym, arith}
 use Rattle.std.proofs.lemmas.List.{map-append, length-map}
 use Rattle.plant_rules.specs.History.{under_way, quieted}
-use Rattle.plant_history.proofs.Running.{idle_done}
+use Rattle.plant_rules.proofs.plant_history.Running.{idle_done}
 use Rattle.plant_core.proofs.Stages.{onward}
 use Rattle.plant_core.proofs.Events.{kept_quieted, all_home}
 use Rattle.plant_core.proofs.CauseLaws.{at_once, room_of, view_more, spare_there, some_of, is_some, some_is, of_some}

@@ -1,0 +1,24 @@
+-- The checked program of a good unit that is formed is sized, and its initial values are in range.
+use Rattle.std.proofs.Common.{◌≤◌, ℕ, List, arith}
+use Rattle.st_tree.specs.declared.program.Program.{Program}
+use Rattle.st_tree.specs.declared.unit.Decl.{Decl}
+use Rattle.st_unit_rules.specs.Checked.{IsChecked}
+use Rattle.st_unit_rules.specs.RefusalLaws.{IsGood}
+use Rattle.st_values.specs.View.{program_of}
+use Rattle.accepted_texts.specs.st_accepted.Accepted.{most_bytes}
+use Rattle.accepted_texts.specs.formed_units.Formed.{IsFormed}
+use Rattle.accepted_texts.proofs.formed_texts.Texts.{formed_text_laws}
+use Rattle.accepted_texts.specs.sized_units.Sized.{IsSized, SizedUnitLaws}
+use Rattle.accepted_texts.proofs.sized_units.Starts.{starts_in_range}
+use Rattle.accepted_texts.proofs.sized_units.Told.{few_values, parts_are_told}
+use Rattle.accepted_texts.proofs.sized_units.Top.{sized}
+
+good_sized : (most : ℕ) (decls : List (Decl ℕ)) (p : Program) → most ≤ 4_294_967_296 → IsFormed most decls → IsGood decls → IsChecked decls p → IsSized (program_of p)
+good_sized most decls p l h good checked = sized decls p checked good.nothing (parts_are_told decls (formed_text_laws.told most decls h good.nothing)) (few_values most decls l h) good.configured
+
+pub sized_unit_laws : SizedUnitLaws
+sized_unit_laws = record {
+  sized = good_sized;
+  accepted = λ text p a. good_sized most_bytes a.whole.decls p (omega arith) (formed_text_laws.standard text a.whole a.is_unit) a.good a.checked;
+  starts = starts_in_range;
+}

@@ -1,3 +1,0 @@
-pub mod UsedLaws
-pub use Rattle.variable_rules.proofs.EachLaws
-pub use Rattle.variable_rules.proofs.Parts

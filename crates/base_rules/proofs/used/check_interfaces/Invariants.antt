@@ -1,7 +1,0 @@
-use Rattle.st_unit_rules.specs.Checked.{TypedUsed, interface_meant}
-use Rattle.st_unit_rules.specs.DeclarationRules.{interface_not_found}
-use Rattle.variable_rules.proofs.EachLaws.{EachTo}
-use Rattle.base_rules.proofs.used.check_interfaces.Given as goal
-
-abbrev pub invariant-loop-used : goal.invariant-loop-used
-invariant-loop-used l = EachTo (TypedUsed (interface_meant l.classes.decls)) (interface_not_found l.classes.decls) l.so_far.least l.so_far.interfaces l.names l.used-index

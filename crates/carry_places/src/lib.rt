@@ -1,6 +1,0 @@
-//! What a change carries, place by place: laws of the values of a store that goes on, and of the row of writes that makes them.
-#![tactic(auto)]
-
-mod carried;
-
-pub use carried::{place_laws, write_laws};

@@ -1,0 +1,2 @@
+pub mod Private
+pub use Rattle.symbol_table.specs.unit_tables.Scopes

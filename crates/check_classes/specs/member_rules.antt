@@ -1,0 +1,3 @@
+pub mod Members
+pub mod Private
+pub use Rattle.check_routines.specs.method_rules.Bodies

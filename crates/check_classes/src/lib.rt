@@ -1,0 +1,16 @@
+//! The modules `base_rules`, `member_rules`, `class_limit_rules`, `class_rules`, `interface_rules`: each says what it holds.
+#![tactic(auto)]
+
+pub mod base_rules;
+pub mod class_limit_rules;
+pub mod class_rules;
+pub mod interface_rules;
+pub mod member_rules;
+
+pub use base_rules::{CheckedBase, CheckedInterfaces, check_base, check_interfaces};
+pub use check_routines;
+pub use class_limit_rules::class_limit_fault;
+pub use class_rules::{CheckedClass, ClassSide, check_class};
+pub use interface_rules::{CheckedInterface, check_interface};
+pub use member_rules::{CheckedMembers, check_members};
+pub use symbol_table;

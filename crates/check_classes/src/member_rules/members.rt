@@ -1,0 +1,136 @@
+//! The members of a class, in the order of the text.
+
+ghost use Rattle.std.specs.Prelude.{◌≡◌, Some, false, [], IfOk};
+ghost use Rattle.section_rules.specs.Home.{home_of};
+ghost use Rattle.check_routines.specs.method_rules.Scopes.{scope_in};
+ghost use Rattle.check_classes.specs.member_rules.Members.{ChecksMembers};
+ghost use Rattle.check_classes.specs.member_rules.Private.Members.{AddsMember, ChecksMember, IsMethodMember, IsSectionMember, NoMembers};
+
+use check_routines::check_declared_variables::{CheckedSection, check_section};
+use check_routines::symbol_table::unit_tables::UnitTables;
+use check_routines::{CheckedMethod, check_method};
+use name_resolution::Scope;
+use plc_text::{Code, Items, NoMemory};
+use section_rules::Home;
+use st_rules::earlier;
+use st_tree::{Member, Note};
+use std::alloc::Global;
+
+/// What is found out about the members of a class.
+#[derive(Drop)]
+pub struct CheckedMembers {
+    /// The least rule that its sections break, with its least line.
+    pub sections: Option<(Code, u32)>,
+    /// The same of its methods.
+    pub methods: Option<(Code, u32)>,
+    /// The members with all types and meanings, where no method breaks a rule.
+    pub members: Items<Member<Note>>,
+}
+
+/// What is found out about a member.
+#[derive(Drop)]
+struct CheckedMember {
+    section: Option<(Code, u32)>,
+    method: Option<(Code, u32)>,
+    member: Member<Note>,
+}
+
+fn section_member(found: CheckedSection) -> CheckedMember
+    ensures { IsSectionMember result found }
+{
+    let CheckedSection { least, section } = found;
+    CheckedMember {
+        section: least,
+        method: None,
+        member: Member::Section(section),
+    }
+}
+
+fn method_member(found: CheckedMethod) -> CheckedMember
+    ensures { IsMethodMember result found }
+{
+    let CheckedMethod { least, method } = found;
+    CheckedMember {
+        section: None,
+        method: least,
+        member: Member::Method(method),
+    }
+}
+
+/// Checks a member of a class.
+fn check_member(
+    alloc: Global,
+    tables: &UnitTables<'_>,
+    s: &Scope<'_>,
+    class: u32,
+    home: Home,
+    member: &Member<u32>,
+) -> Result<CheckedMember, NoMemory>
+    requires { s.now ≡ scope_in tables.now.decls (Some class) false [] }
+    ensures { IfOk result (λ c. ChecksMember c tables.now.decls (home_of home) class member.now) }
+{
+    match member {
+        Member::Section(section) => {
+            let names = tables.names();
+            let classes = tables.classes();
+            let found = check_section(alloc, s, names, classes, home, section)?;
+            Ok(section_member(found))
+        }
+        Member::Method(method) => {
+            let found = check_method(alloc, tables, class, method)?;
+            Ok(method_member(found))
+        }
+    }
+}
+
+fn no_members(alloc: Global) -> CheckedMembers
+    ensures { NoMembers result }
+{
+    CheckedMembers {
+        sections: None,
+        methods: None,
+        members: Items::new(alloc),
+    }
+}
+
+fn with_member(so_far: CheckedMembers, one: CheckedMember) -> Result<CheckedMembers, NoMemory>
+    ensures { IfOk result (λ x. AddsMember x so_far one) }
+{
+    let CheckedMembers {
+        sections,
+        methods,
+        mut members,
+    } = so_far;
+    let CheckedMember {
+        section,
+        method,
+        member,
+    } = one;
+    members.push(member)?;
+    Ok(CheckedMembers {
+        sections: earlier(sections, section),
+        methods: earlier(methods, method),
+        members,
+    })
+}
+
+/// Checks the members of the class of this number, in its scope: the least rule that its sections break and the least one that its methods
+/// break, and their typed trees.
+pub fn check_members(
+    alloc: Global,
+    tables: &UnitTables<'_>,
+    s: &Scope<'_>,
+    class: u32,
+    home: Home,
+    members: &[Member<u32>],
+) -> Result<CheckedMembers, NoMemory>
+    requires { s.now ≡ scope_in tables.now.decls (Some class) false [] }
+    ensures { IfOk result (λ c. ChecksMembers c tables.now.decls (home_of home) class members.now) }
+{
+    let mut so_far = no_members(alloc);
+    for member in members {
+        let one = check_member(alloc, tables, s, class, home, member)?;
+        so_far = with_member(so_far, one)?;
+    }
+    Ok(so_far)
+}

@@ -1,0 +1,4 @@
+pub mod config_rules
+pub mod program_instances
+pub mod configuration_rules
+pub mod checked_tasks

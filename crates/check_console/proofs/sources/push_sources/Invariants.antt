@@ -1,6 +1,0 @@
-use Rattle.std.proofs.Common.{take}
-use Rattle.check_console.specs.Private.Lines.{Adds}
-use Rattle.check_console.proofs.sources.push_sources.Given as goal
-
-abbrev pub invariant-loop-n : goal.invariant-loop-n
-invariant-loop-n g l = Adds g.J.Judge.accepts g.J.Judge.refuses (take l.n l.sources) l.fn.out l.out

@@ -1,0 +1,6 @@
+pub mod BoundLaws
+pub mod ElementLaws
+pub mod DimensionLaws
+pub mod ArrayLaws
+pub mod TypeLaws
+pub use Rattle.check_initial_values.proofs.Parts

@@ -1,0 +1,3 @@
+pub mod type_rules
+pub mod variable_rules
+pub mod entry_rules

@@ -1,0 +1,15 @@
+//! The modules `type_rules`, `variable_rules`, `entry_rules`: each says what it holds.
+#![tactic(auto)]
+
+pub mod entry_rules;
+pub mod type_rules;
+pub mod variable_rules;
+
+pub use check_initial_values;
+pub use check_names;
+pub use entry_rules::{CheckedEntry, check_entry};
+pub use type_rules::{CheckedType, check_type};
+pub use variable_rules::{
+    CheckedGiven, CheckedItem, CheckedResult, CheckedSection, CheckedSections, check_given,
+    check_item, check_result, check_section, check_sections, copied_names,
+};

@@ -1,0 +1,3 @@
+pub mod type_sizes
+pub mod limit_rules
+pub mod base_limits

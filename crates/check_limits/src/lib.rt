@@ -1,0 +1,14 @@
+//! The modules `type_sizes`, `limit_rules`, `base_limits`: each says what it holds.
+#![tactic(auto)]
+
+pub mod base_limits;
+pub mod limit_rules;
+pub mod type_sizes;
+
+pub use base_limits::{InterfaceHeights, too_many_bases};
+pub use declared_graph;
+pub use limit_rules::{
+    Within, add_body_values, class_too_deep, locals_fault, methods_fault, parameters_fault,
+    structure_too_deep, too_deep, too_many_locals,
+};
+pub use type_sizes::{TypeSizes, has_many_dimensions};

@@ -1,6 +1,0 @@
-use Rattle.std.specs.Map.{keys_of}
-use Rattle.checked_tasks.proofs.ListLaws.{GroupsTo}
-use Rattle.checked_tasks.proofs.groups.TaskRegions.build.Given as goal
-
-abbrev pub invariant-loop-region : goal.invariant-loop-region
-invariant-loop-region l = GroupsTo (keys_of l.groups.tasks) l.groups.numbers.items l.regions l.number l.region-index

@@ -1,8 +1,0 @@
--- Cells that grow.
-use Rattle.std.specs.Prelude.{ℕ, List, Option}
-use Rattle.class_chains.specs.declared.cells.Cell.{Cell}
-use Rattle.class_chains.specs.Cells.{Lists}
-
--- each list stays
-pub record Grows (cells more : List Cell) : Type 0 where
-  pub stays : (o : Option ℕ) (xs : List ℕ) → Lists cells o xs → Lists more o xs

@@ -1,6 +1,0 @@
-use Rattle.std.proofs.Common.{◌∙◌}
-use Rattle.class_limit_rules.proofs.CountLaws.{parameters_found}
-use Rattle.class_limit_rules.proofs.counts.body_parameters_fault.Goals as goal
-
-pub returns : goal.returns
-returns c = parameters_found _ _ _ _ _ _ c.in_ok-parameters.ensures (c.len-count.ensures ∙ c.in_ok-parameters.parameters.ok.0) c.when.ensures

@@ -1,5 +1,0 @@
-use Rattle.class_rules.proofs.ClassLaws.{class_checks}
-use Rattle.class_rules.proofs.classes.check_class.Goals as goal
-
-pub returns : goal.returns
-returns c = class_checks _ _ _ _ _ _ _ _ c.in_ok-heading.ensures c.in_ok-broken.ensures c.in_ok-found.ensures c.class_of.ensures

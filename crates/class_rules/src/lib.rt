@@ -1,9 +1,0 @@
-//! All rules of classes and function blocks, and their typed trees (IEC 61131-3:2013, 6.6.3 to 6.6.6).
-#![tactic(auto)]
-
-mod classes;
-mod parts;
-
-pub use class_limit_rules::unit_tables;
-pub use classes::{ClassSide, check_class};
-pub use parts::CheckedClass;

@@ -1,6 +1,0 @@
-//! The listing of valid code.
-#![tactic(auto)]
-
-mod writing;
-
-pub use writing::listing;

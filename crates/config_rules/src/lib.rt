@@ -1,7 +1,0 @@
-//! The rules of tasks and program instances in a configuration (IEC 61131-3:2013, 6.8).
-#![tactic(auto)]
-
-mod settings;
-mod tasks;
-
-pub use tasks::tasks_and_instances;

@@ -1,7 +1,0 @@
-use Rattle.configuration_rules.proofs.InstanceLaws.{added}
-use Rattle.configuration_rules.proofs.instances.add_instance.Goals as goal
-
-pub returns : goal.returns
-returns c =
-    added c.args.tables.now.decls c.args.programs.now c.args.taken.now c.check_instance.new.taken c.args.found.now _ c.args.instance.now c.in_ok-checked.checked.least c.in_ok-checked.checked.region
-    c.in_ok-checked.ensures.fault c.in_ok-checked.ensures.taken c.in_ok-checked.ensures.region c.earlier-first.ensures c.in_ok-push.ensures.ok

@@ -1,8 +1,0 @@
-//! The rules of a configuration as a whole, and the regions of its program instances (IEC 61131-3:2013, 6.8).
-#![tactic(auto)]
-
-mod configurations;
-mod instances;
-
-pub use configurations::{CheckedConfiguration, check_configuration};
-pub use program_instances;

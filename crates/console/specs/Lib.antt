@@ -1,0 +1,3 @@
+pub mod console_words
+pub mod play_console
+pub mod check_console

@@ -1,0 +1,10 @@
+//! The modules `console_words`, `play_console`, `check_console`: each says what it holds.
+#![tactic(auto)]
+
+pub mod check_console;
+pub mod console_words;
+pub mod play_console;
+
+pub use check_console::check;
+pub use console_words::{Order, order_of};
+pub use play_console::play;

@@ -1,6 +1,0 @@
-//! The words of the command line, as they order what the program does.
-#![tactic(auto)]
-
-mod words;
-
-pub use words::{Order, order_of};

@@ -1,0 +1,2 @@
+pub mod Private
+pub use Rattle.check_places.specs.Tables

@@ -1,0 +1,13 @@
+//! The values of constant expressions, by their typed trees (IEC 61131-3:2013, 6.5.1.4).
+
+mod laws;
+mod literals;
+mod noted;
+mod operations;
+mod outcome;
+
+pub use laws::value_laws;
+pub use literals::{duration_value, int_value, negative_value, typed_value};
+pub use noted::noted_value;
+pub use operations::{complemented, converted, negated, operated, target_value};
+pub use outcome::Outcome;

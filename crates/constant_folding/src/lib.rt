@@ -1,0 +1,15 @@
+//! The modules `constant_values`, `constant_rules`, `told_expressions`: each says what it holds.
+#![tactic(auto)]
+
+pub mod constant_rules;
+pub mod constant_values;
+pub mod told_expressions;
+
+pub use check_places;
+pub use check_places::{iface_tables, name_resolution};
+pub use constant_rules::constant_part_fault;
+pub use constant_values::{
+    Outcome, complemented, converted, duration_value, int_value, negated, negative_value,
+    noted_value, operated, target_value, typed_value, value_laws,
+};
+pub use told_expressions::names_are_told;

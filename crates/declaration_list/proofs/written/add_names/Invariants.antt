@@ -1,8 +1,0 @@
-use Rattle.std.proofs.Common.{◌≡◌, ◌++◌, map, drop, true}
-use Rattle.declaration_list.specs.Written.{written_in, global_of, names_from}
-use Rattle.declaration_list.proofs.written.add_names.Given as goal
-
-abbrev pub invariant-loop-name : goal.invariant-loop-name
-invariant-loop-name l =
-    map global_of l.list.items ++ names_from l.section l.item l.first (map (written_in l.section l.item) (drop l.name-index l.names))
-    ≡ map global_of l.initial.list.items ++ names_from l.section l.item true (map (written_in l.section l.item) l.names)

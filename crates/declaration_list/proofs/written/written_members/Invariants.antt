@@ -1,7 +1,0 @@
-use Rattle.std.proofs.Common.{◌≡◌, ◌++◌, map, drop}
-use Rattle.declared_names.specs.Variables.{sections_in}
-use Rattle.declaration_list.specs.Written.{global_of, names_in_sections}
-use Rattle.declaration_list.proofs.written.written_members.Given as goal
-
-abbrev pub invariant-loop-member : goal.invariant-loop-member
-invariant-loop-member l = map global_of l.list.items ++ names_in_sections (sections_in (drop l.member-index l.members)) ≡ names_in_sections (sections_in l.members)

@@ -1,7 +1,0 @@
-use Rattle.std.proofs.Common.{◌++◌, map, ap, ◌∙◌}
-use Rattle.declaration_list.specs.Written.{global_of, names_in_sections}
-use Rattle.declaration_list.proofs.GlobalLaws.{written_by_names}
-use Rattle.declaration_list.proofs.written.written_names.Goals as goal
-
-pub returns-clause-written : goal.returns-clause-written
-returns-clause-written c = written_by_names _ c.args.sections.now (c.in_ok-add_sections.ensures ∙ ap (λ xs. map global_of xs ++ names_in_sections c.args.sections.now) c.new-list.ensures.items)

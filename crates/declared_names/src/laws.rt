@@ -1,8 +1,0 @@
-//! Laws of constants.
-
-ghost use Rattle.declared_names.specs.ConstantLaws.{ConstantLaws};
-
-/// What is told of a constant expression breaks no rule of values, and a zero divisor that the left operand does not reach is skipped.
-pub fn constant_laws()
-    ensures { ConstantLaws }
-{}

@@ -1,0 +1,6 @@
+use Rattle.st_rules.specs.Classes.{classes_in}
+use Rattle.declared_symbols.specs.class_chains.Private.Known.{AreKnown}
+use Rattle.declared_symbols.proofs.class_chains.chains.learn_all.Given as goal
+
+abbrev pub invariant-loop-class : goal.invariant-loop-class
+invariant-loop-class l = AreKnown l.work.cells.items (classes_in l.classes.decls) l.work.firsts.items

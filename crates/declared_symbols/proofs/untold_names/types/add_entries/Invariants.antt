@@ -1,0 +1,6 @@
+use Rattle.std.proofs.Common.{◌≡◌, ◌++◌, map, take}
+use Rattle.declared_symbols.specs.untold_names.Untold.{untold_type}
+use Rattle.declared_symbols.proofs.untold_names.types.add_entries.Given as goal
+
+abbrev pub invariant-loop-entry : goal.invariant-loop-entry
+invariant-loop-entry l = l.list ≡ l.fn.list ++ map (λ t. untold_type t.name) (take l.entry-index l.entries)

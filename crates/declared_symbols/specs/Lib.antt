@@ -1,0 +1,3 @@
+pub mod class_chains
+pub mod untold_names
+pub mod unit_untold

@@ -1,3 +1,0 @@
-pub mod NameLaws
-pub mod NumberLaws
-pub use Rattle.untold_names.proofs.UntoldLaws

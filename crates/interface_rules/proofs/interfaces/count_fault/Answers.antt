@@ -1,5 +1,0 @@
-use Rattle.interface_rules.proofs.InterfaceLaws.{counts_found}
-use Rattle.interface_rules.proofs.interfaces.count_fault.Goals as goal
-
-pub returns : goal.returns
-returns c = counts_found c.args.heights.now.decls c.args.number c.args.interface.now _ _ _ _ c.as_slice.ensures c.methods_fault-methods.ensures c.too_many_above-above.ensures c.earlier.ensures

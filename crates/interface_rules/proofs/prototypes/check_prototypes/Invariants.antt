@@ -1,7 +1,0 @@
-use Rattle.st_unit_rules.specs.Checked.{TypedPrototype}
-use Rattle.st_unit_rules.specs.DeclarationRules.{prototype_faults}
-use Rattle.base_rules.proofs.EachLaws.{EachTo}
-use Rattle.interface_rules.proofs.prototypes.check_prototypes.Given as goal
-
-abbrev pub invariant-loop-method : goal.invariant-loop-method
-invariant-loop-method l = EachTo (TypedPrototype l.tables.decls) (prototype_faults l.tables.decls) l.so_far.least l.so_far.prototypes l.methods l.method-index

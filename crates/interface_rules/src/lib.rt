@@ -1,8 +1,0 @@
-//! All rules of interfaces, and their typed trees (IEC 61131-3:2013, 6.6.6).
-#![tactic(auto)]
-
-mod interfaces;
-mod prototypes;
-
-pub use interfaces::{CheckedInterface, check_interface};
-pub use method_rules::function_rules;

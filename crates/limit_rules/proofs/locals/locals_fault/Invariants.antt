@@ -1,6 +1,0 @@
-use Rattle.st_unit_rules.specs.DeclarationRules.{is_local}
-use Rattle.limit_rules.proofs.SumLaws.{Sums}
-use Rattle.limit_rules.proofs.locals.locals_fault.Given as goal
-
-abbrev pub invariant-loop-variable : goal.invariant-loop-variable
-invariant-loop-variable l = Sums l.sizes is_local 0 l.locals l.sum l.variable-index

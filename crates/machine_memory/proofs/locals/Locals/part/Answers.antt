@@ -1,0 +1,33 @@
+use Rattle.std.proofs.Common.{◌≡◌, sym, ap, ◌∙◌, arith}
+use Rattle.std.specs.Vec.{vec_capacity}
+use Rattle.machine_memory.specs.Private.Windows.{windows}
+use Rattle.machine_memory.proofs.WindowLaws.{Here, here, part_here}
+use Rattle.machine_memory.proofs.locals.Locals.part.Goals as goal
+
+pub overflow_mul-depth : goal.overflow_mul-depth
+overflow_mul-depth c =
+    let l = c.self.inside in
+    let shows : windows l.stride l.bytes 0 l.lens.items ≡ c.args.self.now.locals = ap (λ v. v.locals) c.self.view_is in
+    let h : Here l.stride l.bytes l.lens.items c.args.self.now.locals c.args.depth = here l.stride l.bytes (vec_capacity l.lens) l.lens.items c.args.self.now.locals c.args.depth c.self.invariant shows c.requires.depth in
+    omega (arith, h.small)
+
+pub overflow_add-depth : goal.overflow_add-depth
+overflow_add-depth c =
+    let l = c.self.inside in
+    let shows : windows l.stride l.bytes 0 l.lens.items ≡ c.args.self.now.locals = ap (λ v. v.locals) c.self.view_is in
+    let h : Here l.stride l.bytes l.lens.items c.args.self.now.locals c.args.depth = here l.stride l.bytes (vec_capacity l.lens) l.lens.items c.args.self.now.locals c.args.depth c.self.invariant shows c.requires.depth in
+    omega (arith, h.small, h.size, h.short, c.requires.within)
+
+pub part-requires : goal.part-requires
+part-requires c =
+    let l = c.self.inside in
+    let shows : windows l.stride l.bytes 0 l.lens.items ≡ c.args.self.now.locals = ap (λ v. v.locals) c.self.view_is in
+    let h : Here l.stride l.bytes l.lens.items c.args.self.now.locals c.args.depth = here l.stride l.bytes (vec_capacity l.lens) l.lens.items c.args.self.now.locals c.args.depth c.self.invariant shows c.requires.depth in
+    omega (arith, h.within, h.size, h.short, c.requires.within)
+
+pub returns : goal.returns
+returns c =
+    let l = c.self.inside in
+    let shows : windows l.stride l.bytes 0 l.lens.items ≡ c.args.self.now.locals = ap (λ v. v.locals) c.self.view_is in
+    let h : Here l.stride l.bytes l.lens.items c.args.self.now.locals c.args.depth = here l.stride l.bytes (vec_capacity l.lens) l.lens.items c.args.self.now.locals c.args.depth c.self.invariant shows c.requires.depth in
+    c.part.ensures ∙ sym (part_here l.stride l.bytes l.lens.items c.args.self.now.locals c.args.depth c.args.offset c.args.len h c.requires.within)

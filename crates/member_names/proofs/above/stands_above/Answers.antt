@@ -1,6 +1,0 @@
-use Rattle.std.proofs.Common.{◌∙◌}
-use Rattle.member_names.proofs.AboveLaws.{any_above}
-use Rattle.member_names.proofs.above.stands_above.Goals as goal
-
-pub returns : goal.returns
-returns c = c.any_has.ensures ∙ any_above c.args.name.now c.args.tables.now c.args.above.now

@@ -1,2 +1,0 @@
-pub mod MethodLaws
-pub use Rattle.function_rules.proofs.EachLaws

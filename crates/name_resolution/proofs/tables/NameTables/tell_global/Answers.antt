@@ -1,0 +1,10 @@
+use Rattle.std.proofs.Common.{sym, subst, List}
+use Rattle.st_rules.specs.declared.names.DeclaredGlobal.{DeclaredGlobal}
+use Rattle.name_resolution.specs.Private.Tables.{AreNameTables}
+use Rattle.name_resolution.proofs.TellLaws.{global_tables}
+use Rattle.name_resolution.proofs.tables.NameTables.tell_global.Goals as goal
+
+pub invariant_of-self : goal.invariant_of-self
+invariant_of-self c =
+    subst (λ (xs : List DeclaredGlobal). AreNameTables (record c.self.inside.names { globals = xs }) c.self.inside.types c.self.inside.globals c.self.inside.variables c.self.inside.first c.self.inside.last c.self.inside.values.items c.self.inside.fields.items c.self.inside.all.items c.self.inside.inherited.items c.self.inside.of_instance.items) (sym c.tell_shared.ensures)
+    (global_tables c.self.inside.names c.self.inside.types c.self.inside.globals c.self.inside.variables c.self.inside.first c.self.inside.last c.self.inside.values.items c.self.inside.fields.items c.self.inside.all.items c.self.inside.inherited.items c.self.inside.of_instance.items c.self.invariant c.args.place c.args.kind c.args.target)

@@ -1,0 +1,12 @@
+use Rattle.std.proofs.Common.{sym, ap, ◌∙◌, slice_set}
+use Rattle.st_rules.specs.Telling.{variable_told}
+use Rattle.name_resolution.proofs.TellLaws.{set_changed, past_changed}
+use Rattle.name_resolution.proofs.telling.tell_local.Goals as goal
+
+pub returns-in-Some : goal.returns-in-Some
+returns-in-Some c =
+    ap (slice_set c.args.locals.now c.args.place) c.tell_variable.ensures
+    ∙ set_changed (variable_told c.args.kind c.args.target) c.args.place c.args.locals.now c.in-Some.v.now c.in-Some.ensures.item
+
+pub returns-in-None : goal.returns-in-None
+returns-in-None c = sym (past_changed (variable_told c.args.kind c.args.target) c.args.place c.args.locals.now c.in-None.ensures.item)

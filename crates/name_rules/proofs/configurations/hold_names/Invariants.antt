@@ -1,5 +1,0 @@
-use Rattle.name_rules.proofs.ConfigurationLaws.{HoldsTo, text_lent}
-use Rattle.name_rules.proofs.configurations.hold_names.Given as goal
-
-abbrev pub invariant-loop-name : goal.invariant-loop-name
-invariant-loop-name l = HoldsTo text_lent l.initial.held l.held l.names l.name-index

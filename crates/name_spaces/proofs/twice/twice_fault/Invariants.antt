@@ -1,5 +1,0 @@
-use Rattle.name_spaces.proofs.TwiceLaws.{TwiceTo}
-use Rattle.name_spaces.proofs.twice.twice_fault.Given as goal
-
-abbrev pub invariant-loop-name : goal.invariant-loop-name
-invariant-loop-name l = TwiceTo l.initial.held l.held l.found l.names l.name-index

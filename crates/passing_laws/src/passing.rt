@@ -1,9 +1,0 @@
-//! Laws of passing declarations.
-
-ghost use Rattle.passing_laws.specs.PassingLaws.{PassingLaws};
-
-/// Where all declarations were passed and broke nothing, the unit breaks nothing, and those of each sort are the unit's; the first that breaks
-/// a rule is the first bad one of the unit.
-pub fn passing_laws()
-    ensures { PassingLaws }
-{}

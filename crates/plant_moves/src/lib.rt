@@ -1,6 +1,0 @@
-//! Images that change places between tables: what a claim takes of the regions at home, and what comes home again.
-#![tactic(auto)]
-
-mod moves;
-
-pub use moves::{move_all, take_images};

@@ -1,0 +1,1 @@
+pub mod plc_series

@@ -1,9 +1,0 @@
-use Rattle.reached_routines.specs.Private.Adds.{Queue}
-use Rattle.reached_routines.specs.Private.Asked.{AreAsked}
-use Rattle.reached_routines.proofs.search.reached_routines.Given as goal
-
-abbrev pub invariant-queue : goal.invariant-queue
-invariant-queue l = record {
-  queue : Queue l.callables.tables.now l.task l.next l.search.found.ids.items;
-  asked : AreAsked l.callables.tables.now l.search.asked l.search.found.ids.items;
-}

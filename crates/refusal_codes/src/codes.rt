@@ -1,8 +1,0 @@
-//! Laws of the codes that units are refused for.
-
-ghost use Rattle.refusal_codes.specs.RefusalCodes.{RefusalCodes};
-
-/// No rule that a declaration breaks, and no refusal of a unit, has the code E17.
-pub fn refusal_codes()
-    ensures { RefusalCodes }
-{}

@@ -1,4 +1,0 @@
-pub mod FirstLaws
-pub mod RoutineLaws
-pub use Rattle.variable_rules.proofs.Parts
-pub use Rattle.variable_rules.proofs.EachLaws

@@ -1,8 +1,0 @@
-//! Bits of output and memory addresses that are taken (IEC 61131-3:2013, 6.5.5).
-#![tactic(auto)]
-
-mod span;
-mod table;
-mod taken;
-
-pub use taken::TakenBits;

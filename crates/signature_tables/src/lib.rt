@@ -1,7 +1,0 @@
-//! What methods of interfaces may be given, by the name that a call uses.
-#![tactic(auto)]
-
-mod declarers;
-mod tables;
-
-pub use tables::{SignatureTables, signature_tables};

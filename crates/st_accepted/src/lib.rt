@@ -1,6 +1,0 @@
-//! What a source is refused for, and the program that it is accepted as.
-#![tactic(auto)]
-
-mod laws;
-
-pub use laws::accepted_laws;

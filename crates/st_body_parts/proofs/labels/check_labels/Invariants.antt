@@ -1,6 +1,0 @@
-use Rattle.std.proofs.Common.{drop}
-use Rattle.st_body_parts.specs.Private.Lists.{LabelsLeft}
-use Rattle.st_body_parts.proofs.labels.check_labels.Given as goal
-
-abbrev pub invariant-loop-label : goal.invariant-loop-label
-invariant-loop-label l = LabelsLeft l.so_far l.s l.asked (drop l.label-index l.labels) l.labels

@@ -1,6 +1,0 @@
-use Rattle.std.proofs.Common.{refl}
-use Rattle.st_body_parts.proofs.EndLaws.{literal_end}
-use Rattle.st_body_parts.proofs.labels.check_literal.Goals as goal
-
-pub returns : goal.returns
-returns c = λ s asked. literal_end _ s asked _ _ _ _ _ _ _ c.literal_type-told.ensures c.literal_fault-least.ensures c.in_ok-shown.ensures c.literal_target.ensures c.note-own.ensures c.in_ok-copy.ensures refl

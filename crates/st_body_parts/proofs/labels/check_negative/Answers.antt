@@ -1,6 +1,0 @@
-use Rattle.std.proofs.Common.{refl}
-use Rattle.st_body_parts.proofs.EndLaws.{negative_end}
-use Rattle.st_body_parts.proofs.labels.check_negative.Goals as goal
-
-pub returns : goal.returns
-returns c = λ s. negative_end _ s _ _ _ _ _ _ _ _ c.as_str-text.ensures c.negative_type-told.ensures c.negative_fault-least.ensures c.in_ok-shown.ensures c.negative_target.ensures c.note-own.ensures c.in_ok-copy.ensures refl

@@ -1,8 +1,0 @@
-pub mod Callee
-pub mod Heads
-pub mod Parameters
-pub mod Matching
-pub mod Private
-pub use Rattle.st_places.specs.Standing
-pub use Rattle.st_places.specs.declared.standing.Standing as StandingPlace
-pub use Rattle.st_places.specs.Meant

@@ -1,0 +1,5 @@
+//! What a change carries, place by place: laws of the values of a store that goes on, and of the row of writes that makes them.
+
+mod carried;
+
+pub use carried::{place_laws, write_laws};

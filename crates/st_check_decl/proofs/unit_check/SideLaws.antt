@@ -1,0 +1,36 @@
+-- What a unit is checked by is of that unit.
+use Rattle.std.proofs.Common.{◌≡◌, ℕ, List, [], None, false, sym, ap, ◌∙◌, subst}
+use Rattle.plc_text.specs.declared.denied.Denied.{Denied}
+use Rattle.st_tree.specs.declared.program.Program.{Program}
+use Rattle.st_tree.specs.declared.unit.Decl.{Decl}
+use Rattle.st_tree.specs.declared.unit.Unit.{Unit as ProgramText}
+use Rattle.st_rules.specs.Classes.{classes_in}
+use Rattle.check_names.specs.member_names.Known.{Knows}
+use Rattle.default_values.specs.numbered_signatures.Signatures.{Tells}
+use Rattle.check_configurations.specs.configuration_rules.Programs.{HasPrograms}
+use Rattle.st_unit_rules.specs.Checked.{IsChecked}
+use Rattle.st_unit_rules.specs.DeclarationRules.{signatures}
+use Rattle.st_unit_rules.specs.RefusalLaws.{IsGood}
+use Rattle.st_unit_rules.specs.UnitRefusal.{UnitRefusal}
+use Rattle.global_rules.specs.Scopes.{scope_in}
+use Rattle.st_check_decl.specs.declared.unit_check.side.CheckSide.{CheckSide}
+use Rattle.st_check_decl.specs.unit_check.Checking.{OnRefused}
+use Rattle.st_check_decl.specs.unit_check.Private.Side.{ServesUnit}
+
+pub serves : (x : CheckSide) (u : ProgramText) (ds : List (Decl ℕ)) → x.tables.now ≡ u → x.scope.now ≡ scope_in x.tables.now.decls None false [] → HasPrograms x.programs.now x.tables.now.decls → ds ≡ u.decls → Knows x.classes.names.now (classes_in ds)
+    → Tells x.classes.signatures.now.worths x.classes.signatures.now.signatures (signatures x.tables.now.decls) → x.heights.now ≡ u → ServesUnit x
+serves x u ds e s p d k t h = record {
+  scope = s;
+  programs = p;
+  names = subst (λ (xs : List (Decl ℕ)). Knows x.classes.names.now (classes_in xs)) (d ∙ ap (λ (v : ProgramText). v.decls) (sym e)) k;
+  signatures-are = t;
+  heights = h ∙ sym e;
+}
+
+-- of the unit, whose declarations are lent
+module _ (ds : List (Decl ℕ)) (u : ProgramText) (lent : ds ≡ u.decls) where
+  pub good_of : (p : Program) → IsGood ds × IsChecked ds p → IsGood u.decls × IsChecked u.decls p
+  good_of p h = subst (λ (xs : List (Decl ℕ)). IsGood xs × IsChecked xs p) lent h
+
+  pub refused_of : (e : Denied) → OnRefused e (λ r. UnitRefusal ds r.code r.declaration r.line) → OnRefused e (λ r. UnitRefusal u.decls r.code r.declaration r.line)
+  refused_of e h = subst (λ (xs : List (Decl ℕ)). OnRefused e (λ r. UnitRefusal xs r.code r.declaration r.line)) lent h

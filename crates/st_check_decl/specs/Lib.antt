@@ -1,0 +1,2 @@
+pub mod checked_declarations
+pub mod unit_check

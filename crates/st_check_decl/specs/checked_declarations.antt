@@ -1,0 +1,2 @@
+pub mod SoFar
+pub use Rattle.check_classes.specs.declared.class_rules.classes.ClassSide

@@ -1,0 +1,11 @@
+//! The modules `checked_declarations`, `unit_check`: each says what it holds.
+#![tactic(auto)]
+
+pub mod checked_declarations;
+pub mod unit_check;
+
+pub use checked_declarations::{
+    Bad, CheckedSoFar, ClassSide, Trees, pass_class, pass_configuration, pass_entry, pass_function,
+    pass_global, pass_interface, pass_program,
+};
+pub use unit_check::check;

@@ -1,0 +1,80 @@
+//! A whole unit.
+
+ghost use Rattle.std.specs.Prelude.{◌≡◌, IfErr, IfOk};
+ghost use Rattle.st_unit_rules.specs.passing_laws.Passing.{AllDeclsGood, no_declarations};
+ghost use Rattle.st_unit_rules.specs.passing_laws.PassingLaws.{all_of};
+ghost use Rattle.st_unit_rules.specs.Checked.{IsChecked};
+ghost use Rattle.st_unit_rules.specs.RefusalLaws.{IsGood};
+ghost use Rattle.st_unit_rules.specs.UnitRefusal.{IsFirstBad, UnitRefusal};
+ghost use Rattle.st_check_decl.specs.unit_check.Checking.{OnRefused};
+ghost use Rattle.st_check_decl.specs.unit_check.Private.Progress.{Reached};
+ghost use Rattle.st_check_decl.specs.unit_check.Private.Refused.{IfRule};
+ghost use Rattle.st_check_decl.specs.unit_check.Private.Side.{ServesUnit};
+
+use crate::checked_declarations::{Bad, ClassSide};
+use crate::unit_check::declarations::pass_decls;
+use crate::unit_check::program::finish;
+use crate::unit_check::progress::{Progress, nothing_checked};
+use crate::unit_check::refused::denied_by;
+use crate::unit_check::side::CheckSide;
+use check_configurations::UnitPrograms;
+use check_limits::InterfaceHeights;
+use check_names::member_names::MemberNames;
+use check_signatures::unit_signatures::unit_signatures;
+use global_rules::symbol_table::unit_tables::UnitTables;
+use plc_text::Denied;
+use st_tree::{Decl, Program, Unit};
+use std::alloc::Global;
+
+/// Checks all declarations of a unit.
+fn pass_unit(alloc: Global, side: &CheckSide<'_, '_>, decls: &[Decl<u32>]) -> Result<Progress, Bad>
+    requires side { ServesUnit side.now }
+    requires unit { decls.now ≡ side.now.tables.now.decls }
+    ensures good { IfOk result (λ p. AllDeclsGood decls.now no_declarations decls.now × Reached p decls.now (all_of decls.now)) }
+    ensures bad { IfErr result (λ b. IfRule b (IsFirstBad decls.now)) }
+{
+    let mut progress = nothing_checked(alloc)?;
+    pass_decls(alloc, side, &mut progress, decls)?;
+    Ok(progress)
+}
+
+/// Checks a unit by its tables.
+fn check_by(alloc: Global, side: &CheckSide<'_, '_>, decls: &[Decl<u32>]) -> Result<Program, Denied>
+    requires side { ServesUnit side.now }
+    requires unit { decls.now ≡ side.now.tables.now.decls }
+    ensures ok { IfOk result (λ p. IsGood decls.now × IsChecked decls.now p) }
+    ensures err { IfErr result (λ e. OnRefused e (λ r. UnitRefusal decls.now r.code r.declaration r.line)) }
+{
+    match pass_unit(alloc, side, decls) {
+        Ok(progress) => finish(alloc, decls, progress),
+        Err(bad) => Err(denied_by(decls, bad)),
+    }
+}
+
+/// Checks a unit: its checked program, or why it is refused: the name of its first bad declaration, with the least rule that it breaks at
+/// its least line; E15 for `-` at line 1, where all are good and there is no CONFIGURATION. It takes time linear in the unit but for what
+/// `unit_names` and `unit_signatures` say, and for initial values that many globals of one item share: each has one of its own.
+pub fn check(alloc: Global, unit: &Unit) -> Result<Program, Denied>
+    ensures ok { IfOk result (λ p. IsGood unit.now.decls × IsChecked unit.now.decls p) }
+    ensures err { IfErr result (λ e. OnRefused e (λ r. UnitRefusal unit.now.decls r.code r.declaration r.line)) }
+{
+    let decls = unit.decls.as_slice();
+    let tables = UnitTables::build(alloc, unit)?;
+    let scope = tables.scope(alloc, None, false, &[])?;
+    let programs = UnitPrograms::build(alloc, &tables)?;
+    let names = MemberNames::build(alloc, decls)?;
+    let signatures = unit_signatures(alloc, &tables)?;
+    let heights = InterfaceHeights::build(alloc, unit, tables.class_tables())?;
+    let side = CheckSide {
+        tables: &tables,
+        scope: &scope,
+        programs: &programs,
+        classes: ClassSide {
+            names: &names,
+            signatures: &signatures,
+        },
+        heights: &heights,
+    };
+    let program = check_by(alloc, &side, decls)?;
+    Ok(program)
+}

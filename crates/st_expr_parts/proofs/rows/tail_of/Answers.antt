@@ -1,5 +1,0 @@
-use Rattle.st_tree.specs.Expression.{tail_of-is}
-use Rattle.st_expr_parts.proofs.rows.tail_of.Goals as goal
-
-pub returns : goal.returns
-returns c = tail_of-is _

@@ -1,7 +1,0 @@
-use Rattle.std.proofs.Common.{◌≡◌, drop}
-use Rattle.st_tree.specs.Expression.{tails_of}
-use Rattle.st_rules.specs.Expressions.{are_untyped}
-use Rattle.st_expr_parts.proofs.untyped.+untyped.Given as goal
-
-abbrev pub invariant-are_untyped-loop-tail : goal.invariant-are_untyped-loop-tail
-invariant-are_untyped-loop-tail l = are_untyped (tails_of (drop l.tail-index l.tails)) ≡ are_untyped (tails_of l.tails)

@@ -1,7 +1,0 @@
-use Rattle.st_values.specs.Program.{class_variables}
-use Rattle.st_values.specs.View.{program_of}
-use Rattle.st_initial.proofs.TableLaws.{FirstLists}
-use Rattle.st_initial.proofs.members.classes.Given as goal
-
-abbrev pub invariant-loop-c : goal.invariant-loop-c
-invariant-loop-c l = FirstLists l.all l.c (class_variables (program_of l.program))

@@ -1,9 +1,0 @@
-use Rattle.std.proofs.Common.{◌≡◌, ◌++◌, drop}
-use Rattle.st_values.specs.View as view
-use Rattle.st_initial.specs.Variables.{variables_of}
-use Rattle.st_initial.proofs.variables.push_group.Given as goal
-
--- what was added, and what the rest gives, is the whole
-abbrev pub invariant-loop-name : goal.invariant-loop-name
-invariant-loop-name l =
-    (variables_of l.out.items ++ view.group_variables l.group (drop l.name-index l.group.names)) ≡ (variables_of l.initial.out.items ++ view.group_variables l.group l.group.names)

@@ -1,8 +1,0 @@
-use Rattle.std.proofs.Common.{take}
-use Rattle.std.specs.Prelude.{true}
-use Rattle.st_rules.specs.Scope.{field_list}
-use Rattle.st_scope.specs.Private.Places.{AreTables}
-use Rattle.st_scope.proofs.tables.fields_of.Given as goal
-
-abbrev pub invariant-loop-part : goal.invariant-loop-part
-invariant-loop-part l = AreTables (λ f. f.name) (λ f. true) field_list l.tables.items (take l.part-index l.parts)

@@ -1,6 +1,0 @@
-use Rattle.std.proofs.Common.{◌∙◌}
-use Rattle.st_scope.proofs.PlaceLaws.{found_variable}
-use Rattle.st_scope.proofs.tables.has_variable.Goals as goal
-
-pub returns : goal.returns
-returns c = λ all is. c.is_some.ensures ∙ found_variable c.args.table.now all c.args.name.now c.place_of.result is c.place_of.ensures

@@ -1,0 +1,5 @@
+//! The listing of valid code.
+
+mod writing;
+
+pub use writing::listing;

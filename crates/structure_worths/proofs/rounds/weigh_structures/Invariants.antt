@@ -1,5 +1,0 @@
-use Rattle.structure_worths.proofs.RoundLaws.{RoundsTo}
-use Rattle.structure_worths.proofs.rounds.weigh_structures.Given as goal
-
-abbrev pub invariant-loop-below : goal.invariant-loop-below
-invariant-loop-below g l = RoundsTo l.initial.table l.table (g.S.ConstantValues.scope l.values) l.initial.structures l.below l.structures

@@ -1,5 +1,0 @@
-use Rattle.structure_worths.proofs.CountLaws.{fields_next}
-use Rattle.structure_worths.proofs.unweighed.part_of.Goals as goal
-
-pub loop-group-preserved : goal.loop-group-preserved
-loop-group-preserved c = fields_next c.as_slice-groups.result.now c.loop-group.group-index c.group-item.result _ _ _ c.loop-group-test.true c.group-item.is c.loop-group.invariant c.as_slice.ensures c.in_ok-add_fields.ensures

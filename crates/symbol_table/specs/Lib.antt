@@ -1,0 +1,2 @@
+pub mod unit_names
+pub mod unit_tables

@@ -1,3 +1,0 @@
-pub mod Jobs
-pub mod JobLaws
-pub use Rattle.told_places.specs.PlaceLaws

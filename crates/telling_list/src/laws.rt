@@ -1,8 +1,0 @@
-//! Laws of what is told one by one.
-
-ghost use Rattle.telling_list.specs.JobLaws.{JobLaws};
-
-/// What can be told of a unit may be told one by one in any order, until no more can be told: then all is told.
-pub fn job_laws()
-    ensures { JobLaws }
-{}

@@ -1,6 +1,0 @@
-//! Why the values of constants have types in all scopes of a unit.
-#![tactic(auto)]
-
-mod scopes;
-
-pub use scopes::scope_laws;

@@ -1,0 +1,3 @@
+pub mod NameLaws
+pub mod NumberLaws
+pub use Rattle.declared_symbols.proofs.untold_names.UntoldLaws

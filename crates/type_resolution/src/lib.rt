@@ -1,0 +1,13 @@
+//! The modules `told_scopes`, `written_types`, `declared_variables`, `told_locals`, `told_names`: each says what it holds.
+#![tactic(auto)]
+
+pub mod declared_variables;
+pub mod told_locals;
+pub mod told_names;
+pub mod told_scopes;
+pub mod written_types;
+
+pub use constant_folding;
+pub use constant_folding::{check_places, iface_tables, name_resolution};
+pub use declared_symbols;
+pub use st_check_expr::check_nodes;

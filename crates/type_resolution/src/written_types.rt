@@ -1,0 +1,14 @@
+//! Types as they are written, and values of constants, where they can be told (IEC 61131-3:2013, 6.4 and 6.5.1.4).
+
+mod arrays;
+mod constants;
+mod types;
+mod values;
+
+pub use arrays::array_of;
+pub use constant_folding;
+pub use constant_folding::{check_places, iface_tables, name_resolution};
+pub use constants::constant_of;
+pub use st_check_expr::check_nodes;
+pub use types::{named_type, type_written};
+pub use values::{bound_value, is_number_type, told_value};

@@ -1,6 +1,0 @@
-pub mod BoundLaws
-pub mod ElementLaws
-pub mod DimensionLaws
-pub mod ArrayLaws
-pub mod TypeLaws
-pub use Rattle.initial_rules.proofs.Parts

@@ -1,6 +1,0 @@
-use Rattle.std.proofs.Common.{◌≡◌, ◌++◌, map, drop}
-use Rattle.type_sizes.specs.Private.Rounds.{instance_from}
-use Rattle.type_sizes.proofs.rounds.instances_of.Given as goal
-
-abbrev pub invariant-loop-first : goal.invariant-loop-first
-invariant-loop-first l = l.sizes.items ++ map (instance_from l.totals) (drop l.first-index l.firsts) ≡ map (instance_from l.totals) l.firsts

@@ -1,6 +1,0 @@
-use Rattle.std.proofs.Common.{length}
-use Rattle.type_sizes.proofs.RoundLaws.{SizesTo, FitsPart}
-use Rattle.type_sizes.proofs.rounds.structures_of.Given as goal
-
-abbrev pub invariant-loop-part : goal.invariant-loop-part
-invariant-loop-part l = SizesTo (FitsPart (length l.levels)) l.levels l.parts l.sizes.items l.part-index

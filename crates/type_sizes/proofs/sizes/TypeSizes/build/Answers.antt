@@ -1,4 +1,0 @@
-use Rattle.type_sizes.proofs.sizes.TypeSizes.build.Goals as goal
-
-pub returns : goal.returns
-returns c = λ s k q. record { long = c.in_ok-levels.ensures.long; levels = c.in_ok-levels.ensures.levels s q (c.in_ok-chains.ensures s k q) }

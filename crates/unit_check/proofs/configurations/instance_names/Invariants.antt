@@ -1,7 +1,0 @@
-use Rattle.std.proofs.Common.{◌≡◌, ◌++◌, map, drop}
-use Rattle.st_tree.specs.declared.configuration.InstanceSpec.{InstanceSpec}
-use Rattle.name_spaces.specs.NamesIn.{names_of}
-use Rattle.unit_check.proofs.configurations.instance_names.Given as goal
-
-abbrev pub invariant-loop-instance : goal.invariant-loop-instance
-invariant-loop-instance l = names_of l.list.items ++ map (λ (x : InstanceSpec). x.name) (drop l.instance-index l.instances) ≡ map (λ (x : InstanceSpec). x.name) l.instances

@@ -1,6 +1,0 @@
-use Rattle.std.proofs.Common.{drop}
-use Rattle.unit_check.proofs.DeclsLaws.{DeclsWent}
-use Rattle.unit_check.proofs.declarations.pass_decls.Given as goal
-
-abbrev pub invariant-loop-decl : goal.invariant-loop-decl
-invariant-loop-decl l = DeclsWent l.side.tables.now.decls l.initial.p l.p l.decls (drop l.decl-index l.decls)

@@ -1,4 +1,0 @@
-use Rattle.unit_check.proofs.progress.nothing_checked.Goals as goal
-
-pub returns : goal.returns
-returns c = λ decls. record { passed = c.none-2.ensures decls; regions-are = c.in_ok-regions.ensures decls }

@@ -1,5 +1,0 @@
-use Rattle.unit_names.proofs.ClassLaws.{ClassesTo}
-use Rattle.unit_names.proofs.classes.declared_classes.Given as goal
-
-abbrev pub invariant-loop-decl : goal.invariant-loop-decl
-invariant-loop-decl l = ClassesTo l.known l.decls l.list l.number l.decl-index

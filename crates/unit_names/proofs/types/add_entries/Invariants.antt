@@ -1,6 +1,0 @@
-use Rattle.unit_names.specs.Private.Known.{decls_of, names_of}
-use Rattle.unit_names.proofs.TypeLaws.{EntriesTo}
-use Rattle.unit_names.proofs.types.add_entries.Given as goal
-
-abbrev pub invariant-loop-entry : goal.invariant-loop-entry
-invariant-loop-entry l = EntriesTo (decls_of l.known) (names_of l.known) l.entries l.fn.list l.list l.first l.number l.entry-index

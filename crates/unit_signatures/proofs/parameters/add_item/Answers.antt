@@ -1,5 +1,0 @@
-use Rattle.unit_signatures.proofs.ParameterLaws.{item_added}
-use Rattle.unit_signatures.proofs.parameters.add_item.Goals as goal
-
-pub returns : goal.returns
-returns c = item_added _ _ _ _ _ _ _ c.args.item.now _ _ _ (c.in_ok-kind.ensures c.requires) c.in_ok-initial.ensures c.as_slice.ensures c.in_ok-add_names.ensures

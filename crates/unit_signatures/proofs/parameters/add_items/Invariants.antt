@@ -1,8 +1,0 @@
-use Rattle.std.proofs.Common.{take}
-use Rattle.std.specs.Prelude.{flat_map}
-use Rattle.unit_signatures.specs.Private.Adds.{Adds}
-use Rattle.unit_signatures.specs.Private.Parameters.{AreWeighed, parameter_tells, item_parameters}
-use Rattle.unit_signatures.proofs.parameters.add_items.Given as goal
-
-abbrev pub invariant-loop-item : goal.invariant-loop-item
-invariant-loop-item l = Adds parameter_tells (AreWeighed l.weighed) l.initial.table l.table l.initial.list l.list (flat_map (item_parameters l.weighed l.s l.sort) (take l.item-index l.items))

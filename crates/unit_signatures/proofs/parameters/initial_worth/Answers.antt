@@ -1,8 +1,0 @@
-use Rattle.unit_signatures.proofs.ParameterLaws.{initial_found, no_initial}
-use Rattle.unit_signatures.proofs.parameters.initial_worth.Goals as goal
-
-pub returns-then-is_in_out : goal.returns-then-is_in_out
-returns-then-is_in_out c = no_initial _ _ _ _ _ _ _ c.is_in_out.ensures c.if-is_in_out.true
-
-pub returns : goal.returns
-returns c = initial_found _ _ _ _ _ _ _ _ _ c.is_in_out.ensures c.if-is_in_out.false c.in_ok-worth.ensures

@@ -1,9 +1,0 @@
-use Rattle.unit_signatures.proofs.ScopeLaws.{routine_tells, routine_is}
-use Rattle.unit_signatures.proofs.RoutineLaws.{routine_told}
-use Rattle.unit_signatures.proofs.routines.routine.Goals as goal
-
-pub signature-requires : goal.signature-requires
-signature-requires c = routine_tells _ _ _ _ _ _ _ _ _ c.in_ok-locals.ensures c.as_slice.ensures c.in_ok-s.ensures
-
-pub returns : goal.returns
-returns c = routine_told _ _ _ _ _ _ _ _ _ _ (routine_is _ _ _ _ _ _ _ _ _ c.in_ok-locals.ensures c.as_slice.ensures c.in_ok-s.ensures) c.in_ok-told.ensures

@@ -1,6 +1,0 @@
-use Rattle.std.proofs.Common.{take}
-use Rattle.unit_signatures.specs.Private.Structures.{AddsEntries}
-use Rattle.unit_signatures.proofs.structures.add_entries.Given as goal
-
-abbrev pub invariant-loop-declared : goal.invariant-loop-declared
-invariant-loop-declared l = AddsEntries l.s l.initial.list.items l.list.items (take l.declared-index l.entries)

@@ -1,6 +1,0 @@
-use Rattle.std.proofs.Common.{sym}
-use Rattle.unit_tables.proofs.TableLaws.{seen_sizes}
-use Rattle.unit_tables.proofs.tables.UnitTables.sizes.Goals as goal
-
-pub returns : goal.returns
-returns c = seen_sizes c.self.inside.sizes c.self.inside.unit.now c.args.self.now (cc) c.self.invariant.sizes-are

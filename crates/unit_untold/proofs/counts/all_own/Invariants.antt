@@ -1,7 +1,0 @@
-use Rattle.std.proofs.Common.{◌≡◌, ◌++◌, drop}
-use Rattle.unit_untold.specs.Private.Counts.{own_in}
-use Rattle.unit_untold.proofs.counts.all_own.Given as goal
-
--- what was counted, and what the rest counts, is all
-abbrev pub invariant-loop-decl : goal.invariant-loop-decl
-invariant-loop-decl l = l.list.items ++ own_in (drop l.decl-index l.decls) ≡ own_in l.decls

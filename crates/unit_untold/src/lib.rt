@@ -1,8 +1,0 @@
-//! All names of a unit with nothing told of them.
-#![tactic(auto)]
-
-mod counts;
-mod names;
-mod sums;
-
-pub use names::unit_untold;

@@ -1,6 +1,0 @@
-use Rattle.std.proofs.Common.{◌≡◌, ◌++◌, map, take}
-use Rattle.untold_names.specs.Untold.{untold_type}
-use Rattle.untold_names.proofs.types.add_entries.Given as goal
-
-abbrev pub invariant-loop-entry : goal.invariant-loop-entry
-invariant-loop-entry l = l.list ≡ l.fn.list ++ map (λ t. untold_type t.name) (take l.entry-index l.entries)

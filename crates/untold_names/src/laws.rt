@@ -1,8 +1,0 @@
-//! Laws of names with nothing told.
-
-ghost use Rattle.untold_names.specs.Untold.{UntoldLaws};
-
-/// What is told of a unit's names from anything, forgotten again, is its names alone.
-pub fn untold_laws()
-    ensures { UntoldLaws }
-{}

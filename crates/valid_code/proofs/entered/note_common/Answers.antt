@@ -1,4 +1,0 @@
-use Rattle.valid_code.proofs.entered.note_common.Goals as goal
-
-pub returns : goal.returns
-returns c = λ q. c.in_ok-insert.ensures.updates.0 q

@@ -1,9 +1,0 @@
-use Rattle.std.proofs.Common.{sym, ◌∙◌}
-use lib.Pointwise.{pointwise_decides}
-use Rattle.valid_code.proofs.KindLaws.{kind_decides}
-use Rattle.valid_code.proofs.kinds.same.Goals as goal
-
-pub returns : goal.returns
-returns c =
-    let both = pointwise_decides kind_decides c.args.a.now c.args.b.now in
-    (λ t. both.0 (sym c.eq.ensures ∙ t), λ e. c.eq.ensures ∙ both.1 e)

@@ -1,7 +1,0 @@
-use Rattle.std.proofs.Common.{◌≡◌, ℕ, ◌||◌, drop}
-use Rattle.std.specs.HashSet.{contains}
-use Rattle.valid_code.specs.Private.Tables.{same_pair, is_conforming}
-use Rattle.valid_code.proofs.tables.pairs.Given as goal
-
-abbrev pub invariant-entries : goal.invariant-entries
-invariant-entries l = (class target : ℕ) → (contains same_pair l.found (class, target) || is_conforming class target (drop l.entry-index l.table)) ≡ is_conforming class target l.table

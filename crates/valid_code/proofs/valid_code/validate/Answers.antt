@@ -1,5 +1,0 @@
-use Rattle.std.proofs.Common.{refl}
-use Rattle.valid_code.proofs.valid_code.validate.Goals as goal
-
-pub returns : goal.returns
-returns c = (c.in_ok-is_valid.ensures.0 c.if-not-branch.false, refl)

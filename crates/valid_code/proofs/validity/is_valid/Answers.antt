@@ -1,9 +1,0 @@
-use Rattle.valid_code.proofs.SplitLaws.{when_ok}
-use Rattle.valid_code.proofs.NumberLaws.{valid_of, within_of}
-use Rattle.valid_code.proofs.validity.is_valid.Goals as goal
-
-pub returns-then-not-all_within : goal.returns-then-not-all_within
-returns-then-not-all_within c = (λ t. absurd (cc), λ v. absurd (let t = c.all_within.ensures.1 (within_of c.args.code.now v) in cc))
-
-pub returns : goal.returns
-returns c = when_ok c.are_valid_routines.result c.are_valid_routines.ensures (λ b e. (λ t. valid_of c.args.code.now (c.all_within.ensures.0 c.if-not-all_within.false) (e.0 t), λ v. e.1 v.routines))

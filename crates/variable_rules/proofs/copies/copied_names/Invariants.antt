@@ -1,6 +1,0 @@
-use Rattle.std.proofs.Common.{◌≡◌, ◌++◌, drop}
-use Rattle.variable_rules.proofs.copies.copied_names.Given as goal
-
--- what was copied, and what is left, is the whole
-abbrev pub invariant-loop-name : goal.invariant-loop-name
-invariant-loop-name l = l.copy ++ drop l.name-index l.names ≡ l.names

@@ -1,6 +1,0 @@
-use Rattle.variable_rules.proofs.ItemLaws.{item_checks}
-use Rattle.variable_rules.proofs.items.check_item.Goals as goal
-
-pub returns : goal.returns
-returns c =
-    item_checks _ _ _ _ _ _ _ _ _ _ _ _ _ _ c.requires.names c.requires.classes c.in_ok-kind.ensures c.in_ok-given.ensures c.item_line.ensures c.own_fault-own.ensures c.external_if-external.ensures c.earlier.ensures c.in_ok-head.ensures c.item_of.ensures
