@@ -1,7 +1,8 @@
 -- What is left of a list at a place, and what stands before it.
-use Rattle.std.proofs.Common.{◌≡◌, ℕ, zero, suc, ◌+◌, ◌<◌, ◌≤◌, Bool, true, false, List, [], ◌∷◌, ◌++◌, length, get_or, take, drop, refl, sym, ap, ◌∙◌, arith, add-one, drop-cons}
+use Rattle.std.proofs.Common.{◌≡◌, ℕ, zero, suc, ◌+◌, ◌<◌, ◌≤◌, Bool, true, false, List, [], ◌∷◌, ◌++◌, length, map, get_or, take, drop, refl, sym, ap, ◌∙◌, arith, add-one, append-nil, drop-cons}
 use Rattle.std.specs.Prelude.{◌||◌}
 use Rattle.std.specs.List.{list_any}
+use Rattle.std.proofs.lemmas.List.{append_assoc}
 use Rattle.std.proofs.Math.Seq.{take-suc}
 
 pub drop-at : {X : Type 0} (xs : List X) (i : ℕ) (x : X) → i < length xs → x ≡ get_or xs i x → drop i xs ≡ x ∷ drop (i + 1) xs
@@ -32,3 +33,18 @@ module _ {X : Type 0} (test : X → Bool) (xs : List X) (i : ℕ) where
 
   pub any-none : length xs ≤ i → list_any test (drop i xs) ≡ list_any test xs → false ≡ list_any test xs
   any-none h left = sym (ap (list_any test) (drop-end xs i h)) ∙ left
+
+-- A loop that puts what each item gives behind what it has: `given` says what items give.
+pub left_next : {X Y : Type 0} (given : List X → List Y) (xs : List X) (i : ℕ) (x : X) (old new part whole : List Y) → i < length xs → x ≡ get_or xs i x → given (x ∷ drop (i + 1) xs) ≡ part ++ given (drop (i + 1) xs) →
+    new ≡ old ++ part → old ++ given (drop i xs) ≡ whole → new ++ given (drop (i + 1) xs) ≡ whole
+left_next given xs i x old new part whole h e g n left =
+    ap (λ zs. zs ++ given (drop (i + 1) xs)) n ∙ append_assoc old part (given (drop (i + 1) xs)) ∙ ap (λ zs. old ++ zs) (sym g) ∙ ap (λ ys. old ++ given ys) (sym (drop-at xs i x h e)) ∙ left
+
+pub left_end : {X Y : Type 0} (given : List X → List Y) (xs : List X) (i : ℕ) (all whole : List Y) → given [] ≡ [] → length xs ≤ i → all ++ given (drop i xs) ≡ whole → all ≡ whole
+left_end given xs i all whole g h left = sym (append-nil all) ∙ ap (λ zs. all ++ zs) (sym g) ∙ ap (λ ys. all ++ given ys) (sym (drop-end xs i h)) ∙ left
+
+pub mapped_next : {X Y : Type 0} (f : X → Y) (xs : List X) (i : ℕ) (x : X) (old new whole : List Y) (y : Y) → i < length xs → x ≡ get_or xs i x → new ≡ old ++ y ∷ [] → y ≡ f x → old ++ map f (drop i xs) ≡ whole → new ++ map f (drop (i + 1) xs) ≡ whole
+mapped_next f xs i x old new whole y h e n g left = left_next (map f) xs i x old new (y ∷ []) whole h e (ap (λ z. z ∷ map f (drop (i + 1) xs)) (sym g)) n left
+
+pub mapped_end : {X Y : Type 0} (f : X → Y) (xs : List X) (i : ℕ) (all whole : List Y) → length xs ≤ i → all ++ map f (drop i xs) ≡ whole → all ≡ whole
+mapped_end f xs i all whole h left = left_end (map f) xs i all whole refl h left
