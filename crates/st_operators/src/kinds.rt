@@ -3,7 +3,7 @@
 ghost use Rattle.std.specs.Prelude.{◌≡◌};
 ghost use Rattle.st_rules.specs.Kinds as kinds;
 
-use st_rules::st_tree::Operator;
+use st_tree::Operator;
 use st_types::{Elem, widen};
 
 /// The kind that two operands take: the first that both reach.

@@ -9,8 +9,8 @@ ghost use Rattle.st_rules.specs.Literals as literals;
 use crate::kinds::{is_bool, is_number};
 use crate::types::is_number_type;
 use plc_text::Code;
-use st_rules::st_tree::{Literal, milliseconds, number_of};
 use st_rules::{Asked, at, when};
+use st_tree::{Literal, milliseconds, number_of};
 use st_types::{Elem, StType, highest, lowest};
 
 /// Whether the number is a value of the kind.

@@ -8,8 +8,8 @@ ghost use Rattle.st_rules.specs.Expressions as expressions;
 use crate::kinds::{gives_bool, takes_minus, takes_not};
 use crate::types::{is_number_type, operand_kind, suits_operator};
 use plc_text::Code;
-use st_rules::st_tree::Operator;
 use st_rules::when;
+use st_tree::Operator;
 use st_types::{Elem, StType};
 
 /// The type of an operation, from those of its operands; nothing where it cannot be told.

@@ -4,7 +4,7 @@ ghost use Rattle.std.specs.Prelude.{◌≡◌, MatchOption, Some, None};
 ghost use Rattle.st_rules.specs.Kinds as kinds;
 
 use crate::kinds::{common_kind, is_bool, is_number, takes};
-use st_rules::st_tree::Operator;
+use st_tree::Operator;
 use st_types::{Elem, StType};
 
 pub fn is_number_type(t: &StType) -> bool

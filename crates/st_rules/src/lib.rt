@@ -33,5 +33,4 @@ pub use signature::{
     Parameter, ResultType, Signature, Signatures, differs_from_hook, is_hook, same_signature,
 };
 pub use sorts::{is_body_sort, is_external, is_instance_sort, is_parameter_sort};
-pub use st_tree;
 pub use widening::widening_laws;

@@ -10,4 +10,3 @@ pub use constants::is_told;
 pub use declarations::{behind_instances, resource_globals};
 pub use dimensions::has_fewer_dimensions;
 pub use laws::constant_laws;
-pub use st_tree;

@@ -9,4 +9,3 @@ pub mod passing_laws;
 pub mod refusal_codes;
 
 pub use laws::refusal_laws;
-pub use st_tree;

@@ -8,11 +8,11 @@ ghost use Rattle.st_unit_rules.specs.declaration_list.Written.{global_of};
 
 use crate::declaration_list::written::{WrittenName, add_sections, item_line, section_names};
 use crate::declared_names::resource_globals;
-use crate::declared_names::st_tree::{
+use plc_text::NoMemory;
+use st_tree::{
     ClassDecl, Configuration, Decl, FunctionDecl, InterfaceDecl, Name, ProgramDecl, Section,
     TypeDecl,
 };
-use plc_text::NoMemory;
 use std::alloc::Global;
 
 /// A declaration of a unit: an entry of TYPE, a global, or another one.

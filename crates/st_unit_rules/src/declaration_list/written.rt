@@ -7,9 +7,9 @@ ghost use Rattle.st_unit_rules.specs.declared_names.Variables.{sections_in, sect
 ghost use Rattle.st_unit_rules.specs.declared_names.Modifiers as modifiers;
 ghost use Rattle.st_unit_rules.specs.declaration_list.Written.{written_in, global_of, written_of, names_from, names_in_item, names_in_section, names_in_sections};
 
-use crate::declared_names::st_tree::{Item, Member, Modifier, Name, Section};
 use plc_text::NoMemory;
 use st_rules::{is_body_sort, is_external, is_instance_sort, is_parameter_sort};
+use st_tree::{Item, Member, Modifier, Name, Section};
 use std::alloc::Global;
 
 /// A name that is declared, with its section and its item.
