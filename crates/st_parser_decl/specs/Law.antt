@@ -17,6 +17,6 @@ pub record UnitNoneDeep (ts : List Lexeme) (unit : ProgramText) : Type 0 where
 abbrev pub IsRefusedWith : Code → List Lexeme → Type 0
 IsRefusedWith c ts = (p : ℕ) × IsRefusedAt c ts p
 
--- a unit that is none_deep, or refused with one of the two codes
+-- a unit none of whose lexemes is too deep, or refused with one of the two codes
 abbrev pub IsAnswered : List Lexeme → Type 0
 IsAnswered ts = ((unit : ProgramText) × UnitNoneDeep ts unit) ⊎ (IsRefusedWith code.E02 ts ⊎ IsRefusedWith code.E03 ts)

@@ -19,7 +19,7 @@ module _ (most : ℕ) where
   whole_formed : (prelude text : List ℕ) (whole : ProgramText) → length prelude ≤ most → most_bytes ≤ most → IsUnit prelude text whole → IsFormed most whole.decls
   whole_formed prelude text whole l m u =
       let b = u.fits in
-      let own = formed_laws.text most text u.tokens u.unit u.tokens-are (omega (arith, b, m)) u.flat.derived in
+      let own = formed_laws.text most text u.tokens u.unit u.tokens-are (omega (arith, b, m)) u.reads.derived in
       let p = u.with_prelude in
       subst (IsFormed most) (sym p.before) (formed_laws.joined most p.prelude.decls u.unit.decls (prelude_formed prelude p.prelude l p.is-prelude) own)
 

@@ -1,4 +1,4 @@
--- Every text is accepted or refused: it has tokens or a first bad place, its lexemes are a reads unit or are refused, and a unit is good or bad.
+-- Every text is accepted or refused: it has tokens or a first bad place, its lexemes are a unit or are refused, and a unit is good or bad.
 use Rattle.std.proofs.Common.{◌≡◌, ◌⊎◌, inl, inr, ◌<◌, ◌≤◌, ◌+◌, ℕ, zero, suc, true, false, Bool, codes, List, [], ◌∷◌, ◌++◌, length, drop, refl, subst, arith}
 use Rattle.std.specs.List.{slice_range}
 use Rattle.std.proofs.lemmas.Bool.{cases_lt, cases_Bool}
