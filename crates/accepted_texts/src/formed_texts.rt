@@ -1,6 +1,6 @@
 //! What every source that is read gives of its unit, with the prelude before it: it is formed, and where it breaks no rule all is told
 //! (IEC 61131-3:2013, Annex A and 6.4).
 
-mod texts;
+mod formed;
 
-pub use texts::formed_text_laws;
+pub use formed::formed_text_laws;

@@ -1,5 +1,5 @@
 //! What a change carries, place by place: laws of the values of a store that goes on, and of the row of writes that makes them.
 
-mod carried;
+mod carrying;
 
-pub use carried::{place_laws, write_laws};
+pub use carrying::{place_laws, write_laws};

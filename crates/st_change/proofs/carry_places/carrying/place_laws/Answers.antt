@@ -1,5 +1,5 @@
 use Rattle.st_change.proofs.carry_places.Places.{place_laws}
-use Rattle.st_change.proofs.carry_places.carried.place_laws.Goals as goal
+use Rattle.st_change.proofs.carry_places.carrying.place_laws.Goals as goal
 
 pub returns : goal.returns
 returns c = place_laws

@@ -1,5 +1,5 @@
 use Rattle.resolution_order.proofs.told_places.PlaceLaws.{place_laws}
-use Rattle.resolution_order.proofs.told_places.places.place_laws.Goals as goal
+use Rattle.resolution_order.proofs.told_places.at_places.place_laws.Goals as goal
 
 pub returns : goal.returns
 returns c = place_laws
