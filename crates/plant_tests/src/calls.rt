@@ -361,12 +361,7 @@ fn tell_calls<P: Controlled>(
     requires inputs { HasShortInputs scenario.plays.value }
     requires whole { IsNextWhole P.meaning (λ t k. IsKit P.meaning P.ready (arc_value first.loaded) t (arc_value k.shared) k.work k.carrier) (arc_value first.loaded) (arc_value first.for_change) first.regions first.kits.items }
 {
-    let Scenario {
-        program: _,
-        sources,
-        plays,
-        phases,
-    } = scenario;
+    let (plays, sources, phases) = scenario.into_shared();
     let mut table = Table::new(alloc, first, plays, sources, phases)?;
     tell_answers(alloc, told, &mut table, calls)
 }

@@ -1,5 +1,7 @@
 //! What a scenario holds.
 
+ghost use Rattle.std.specs.Prelude.{◌≡◌};
+
 use cycle_journal::Play;
 use plc_text::{Items, Text};
 use st_names::Names;
@@ -31,5 +33,23 @@ impl Drop for Scenario {
         drop(sources);
         drop(plays);
         drop(phases);
+    }
+}
+
+impl Scenario {
+    /// What threads share of it.
+    pub fn into_shared(self) -> (Arc<Items<Play>>, Arc<Names<Text>>, Arc<Items<(u32, u32)>>)
+        ensures plays { result.0 ≡ self.plays }
+        ensures sources { result.1 ≡ self.sources }
+        ensures phases { result.2 ≡ self.phases }
+    {
+        let Scenario {
+            program,
+            sources,
+            plays,
+            phases,
+        } = self;
+        drop(program);
+        (plays, sources, phases)
     }
 }
