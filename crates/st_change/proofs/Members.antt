@@ -7,7 +7,7 @@ use Rattle.st_tree.specs.declared.path.Step.TheVariants as step
 use Rattle.st_values.specs.Program.{Region, Program}
 use Rattle.st_values.specs.Value.{Path, ◌>>=◌, natural, place_of_index}
 use Rattle.st_values.specs.Shape.{Shape, Elementary, Enumeration, Reference, Interface, Array, Structure, Instance, Fields, no_fields, field_then, field, element_shape, shape_part, region_shape, path_shape}
-use Rattle.st_meaning.specs.st_frame.Promise.{Each}
+use Rattle.st_meaning.specs.st_frame.Promise.Declarations.{Each}
 use Rattle.st_meaning.proofs.st_frame.Values.{path_further}
 use Rattle.st_change.specs.Instances.{Member, further, along_elements, members_first, fields_first, owner_first, owner_fields, walk_region, of_regions}
 

@@ -19,7 +19,8 @@ use Rattle.st_meaning.specs.Cycle.{all_ticks}
 use Rattle.st_meaning.specs.st_frame.Footprint.{Has}
 use Rattle.st_meaning.specs.st_frame.FrameLaws.{FlagFits}
 use Rattle.st_meaning.specs.st_frame.Good.{Names, Good}
-use Rattle.st_meaning.specs.st_frame.Promise.{Each, ProgramIs}
+use Rattle.st_meaning.specs.st_frame.Promise.Declarations.{Each}
+use Rattle.st_meaning.specs.st_frame.Promise.Programs.{ProgramIs}
 use Rattle.st_meaning.proofs.st_frame.Frame.{frame_laws}
 use Rattle.st_meaning.proofs.st_frame.Values.{initial_good}
 use Rattle.st_change.specs.Instances.{Member, members_first, owner_first}

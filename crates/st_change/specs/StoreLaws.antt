@@ -1,5 +1,5 @@
 -- Stores stay good: after a first load, after a change with its hooks, and after each play.
-use Rattle.std.specs.Prelude.{◌≡◌, ◌≤◌, ℕ, false, List, Some, slice_get}
+use Rattle.std.specs.Prelude.{◌≡◌, ◌≤◌, ℕ, false, List, length, Some, slice_get}
 use Rattle.plc_text.specs.declared.refusal.Refusal.{Refusal}
 use Rattle.cycle_journal.specs.declared.entry.Answer.{Answer}
 use Rattle.cycle_journal.specs.declared.play.Play.{Play}
@@ -8,9 +8,11 @@ use Rattle.st_values.specs.Program.{Variable, to_local, Parameter, Routine, Prog
 use Rattle.st_values.specs.Value.{Store}
 use Rattle.st_meaning.specs.Call.{is_in_out}
 use Rattle.st_meaning.specs.st_frame.Good.{Good}
-use Rattle.st_meaning.specs.st_frame.Promise.{Each, IsBool, RoutineIs, ProgramIs}
+use Rattle.st_meaning.specs.st_frame.Promise.Types.{IsBool}
+use Rattle.st_meaning.specs.st_frame.Promise.Declarations.{Each, RoutineIs}
+use Rattle.st_meaning.specs.st_frame.Promise.Programs.{ProgramIs}
 use Rattle.st_meaning.specs.st_frame.FrameLaws.{last_moment}
-use Rattle.st_change.specs.Hook.{When, hook_name, ran}
+use Rattle.st_change.specs.Hook.{When, at_init, at_exit, at_reinit, hook_name, ran}
 use Rattle.st_change.specs.Change as change
 use Rattle.st_change.specs.OneThread.{Controller, One}
 
@@ -18,9 +20,15 @@ use Rattle.st_change.specs.OneThread.{Controller, One}
 abbrev pub IsFlag : Routine → Parameter → Type 0
 IsFlag r q = (n : ℕ) × (v : Variable) × (q.to ≡ to_local n) × (slice_get r.locals n ≡ Some v) × (is_in_out v.sort ≡ false) × IsBool v.kind
 
+-- as many as a hook is given
+abbrev pub hook_inputs : When → ℕ
+hook_inputs at_init = 2
+hook_inputs at_exit = 1
+hook_inputs at_reinit = 0
+
 -- what the checker promises of hooks
 pub record HooksAre (p : Program) : Type 0 where
-  pub by : (w : When) (c : ℕ) (r : Routine) → own_method p (hook_name w) c ≡ Some r → RoutineIs p r × (r.class ≡ Some c) × Each (IsFlag r) r.parameters
+  pub by : (w : When) (c : ℕ) (r : Routine) → own_method p (hook_name w) c ≡ Some r → RoutineIs p r × (r.class ≡ Some c) × Each (IsFlag r) r.parameters × (length r.parameters ≡ hook_inputs w)
 
 -- what it promises of all that it accepts
 pub record Promises (Accepts : List ℕ → Program → Type 0) : Type 0 where

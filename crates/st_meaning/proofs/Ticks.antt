@@ -52,7 +52,7 @@ pub some_falls : {A : Type 0} (k : FaultKind) (o : Option A) → Falls (some_or 
 some_falls k None = fails_falls k
 some_falls k (Some a) = gives_falls a
 
-spend_lower : (n line : ℕ) (s : State) → n ≤ s.ticks → NoMore s.ticks (spend_from n line s)
+pub spend_lower : (n line : ℕ) (s : State) → n ≤ s.ticks → NoMore s.ticks (spend_from n line s)
 spend_lower zero line s h = tt
 spend_lower (suc n) line s h = omega arith
 
@@ -101,15 +101,15 @@ ruleset steps = (then_falls, gives_falls, fails_falls, some_falls, spend_falls, 
 
 -- ---- places and calls
 
-read_falls : (spot : Spot) → Falls (read spot)
+pub read_falls : (spot : Spot) → Falls (read spot)
 read_falls (in_store q) = search steps
 read_falls (in_frame d n ss) = search steps
 
-write_falls : (spot : Spot) (v : Value) → Falls (write spot v)
+pub write_falls : (spot : Spot) (v : Value) → Falls (write spot v)
 write_falls (in_store q) new = search steps depth 12
 write_falls (in_frame d n ss) new = search steps depth 12
 
-named_falls : (t : Target) → Falls (named_spot t)
+pub named_falls : (t : Target) → Falls (named_spot t)
 named_falls (target.Local n) = search steps
 named_falls (target.Region r) = search steps
 named_falls (target.Variable k) = search steps

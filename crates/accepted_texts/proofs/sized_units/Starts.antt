@@ -11,7 +11,8 @@ use Rattle.st_values.specs.Program.{Variable, Region, Program}
 use Rattle.st_values.specs.Value.{◌>>=◌}
 use Rattle.st_values.specs.Shape.{Shape, Elementary, Enumeration, Reference, Interface, Array, Structure, Instance, Fields, no_fields, field_then, shape_of, region_shape}
 use Rattle.st_values.specs.Initial.{number_given, list_given, fields_given, given_for}
-use Rattle.st_meaning.specs.st_frame.Promise.{Each, StartsRight, StartRight, VariableFits, ProgramIs}
+use Rattle.st_meaning.specs.st_frame.Promise.Declarations.{Each, StartsRight, StartRight, VariableFits}
+use Rattle.st_meaning.specs.st_frame.Promise.Programs.{ProgramIs}
 use Rattle.mem_layout.specs.store_bytes.InitialLaws.{EachGiven, IsInRange, AreInRange, StartsInRange}
 use Rattle.accepted_texts.specs.sized_units.Sized.{IsCounted, AreCounted, IsSized}
 

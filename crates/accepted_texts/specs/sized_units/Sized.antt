@@ -9,7 +9,7 @@ use Rattle.st_values.specs.Shape.{Shape, Elementary, Enumeration, Reference, Int
 use Rattle.st_values.specs.View.{program_of}
 use Rattle.st_meaning.specs.Enter.{programs_of}
 use Rattle.st_meaning.specs.st_frame.Footprint.{Has}
-use Rattle.st_meaning.specs.st_frame.Promise.{ProgramIs}
+use Rattle.st_meaning.specs.st_frame.Promise.Programs.{ProgramIs}
 use Rattle.mem_layout.specs.store_bytes.InitialLaws.{StartsInRange}
 use Rattle.mem_layout.specs.store_bytes.PlaceLaws.{AreSmall}
 use Rattle.mem_layout.specs.Layout.{RegionsHaveShapes}

@@ -8,7 +8,8 @@ use Rattle.st_values.specs.Value.{Value, number, Store, Members, no_members, mem
 use Rattle.st_values.specs.Shape.{Shape, shape_of, region_shape}
 use Rattle.st_values.proofs.ValueLaws.{then_some}
 use Rattle.st_meaning.specs.st_frame.Good.{Fit, GoodAt, Good, region_names}
-use Rattle.st_meaning.specs.st_frame.Promise.{Each, VariableFits, ProgramIs}
+use Rattle.st_meaning.specs.st_frame.Promise.Declarations.{Each, VariableFits}
+use Rattle.st_meaning.specs.st_frame.Promise.Programs.{ProgramIs}
 use Rattle.mem_layout.specs.store_bytes.Place.{size}
 use Rattle.mem_layout.specs.store_bytes.Spells.{Spells}
 use Rattle.mem_layout.specs.store_bytes.Image.{image_of}

@@ -16,7 +16,7 @@ use Rattle.st_meaning.specs.Cycle.{cycle}
 use Rattle.st_meaning.specs.Enter.{programs_of}
 use Rattle.st_meaning.specs.st_frame.Footprint.{Has, Writes, IsFootprint}
 use Rattle.st_meaning.specs.st_frame.Good.{Fit}
-use Rattle.st_meaning.specs.st_frame.Promise.{ProgramIs}
+use Rattle.st_meaning.specs.st_frame.Promise.Programs.{ProgramIs}
 use Rattle.st_change.specs.Hook.{ran, stopped}
 use Rattle.st_change.specs.Change.{change}
 use Rattle.st_change.specs.OneThread.{task_named, hook_refusal}

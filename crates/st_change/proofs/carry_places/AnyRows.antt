@@ -10,7 +10,7 @@ use Rattle.st_tree.specs.declared.path.Step.TheVariants as step
 use Rattle.st_values.specs.Value.{Value, number, reference, array, structure, instance, Values, no_values, value_then, Members, no_members, member_then, ◌>>=◌, element, with_element, with_element_at, member, with_member, natural, place_of_index, part, with_part, value_at, value_with}
 use Rattle.st_values.specs.ValueLaws.{Apart}
 use Rattle.st_values.proofs.ValueLaws.{value_laws}
-use Rattle.st_meaning.specs.st_frame.Promise.{Each}
+use Rattle.st_meaning.specs.st_frame.Promise.Declarations.{Each}
 use Rattle.st_change.proofs.Names.{then_is, then_some}
 use Rattle.st_change.specs.carry_places.Writes.{Write, written, is_single, IsAmong}
 

@@ -9,7 +9,7 @@ use Rattle.st_values.specs.Program.{Variable, Program}
 use Rattle.st_values.specs.Value.{Value, number, reference, array, structure, instance, Values, no_values, value_then, Members, no_members, member_then, ◌>>=◌, element, with_element, with_element_at, with_member, natural, place_of_index, part, with_part, value_at, value_with}
 use Rattle.st_values.specs.Shape.{Shape, Elementary, Enumeration, Reference, Interface, Array, Structure, Instance, Fields, no_fields, field_then, element_shape, shape_part, shape_at}
 use Rattle.st_meaning.specs.st_frame.Good.{Fit, FitAll, FitEach}
-use Rattle.st_meaning.specs.st_frame.Promise.{Each}
+use Rattle.st_meaning.specs.st_frame.Promise.Declarations.{Each}
 use Rattle.st_meaning.proofs.st_frame.Values.{element_of}
 use Rattle.st_change.specs.From.{old_name, structure_pairs, class_pairs}
 use Rattle.st_change.specs.Carry.{Old, old_element, field_before, variable_before, before_by, stays, carry, carry_elements, carry_members}

@@ -9,7 +9,7 @@ use Rattle.st_values.specs.Program.{Region, Program}
 use Rattle.st_values.specs.Value.{Value, structure, no_members, member_then, Store, ◌>>=◌, member, with_member, value_at, value_with, at, put}
 use Rattle.st_values.specs.Shape.{Shape, shape_at, shape_of, region_shape, path_shape}
 use Rattle.st_meaning.specs.st_frame.Good.{Fit, Good}
-use Rattle.st_meaning.specs.st_frame.Promise.{Each}
+use Rattle.st_meaning.specs.st_frame.Promise.Declarations.{Each}
 use Rattle.st_change.specs.From.{same_flag}
 use Rattle.st_change.specs.Counterpart.{kept}
 use Rattle.st_change.specs.Carry.{stays, carry}

@@ -8,7 +8,7 @@ use Rattle.st_values.specs.Program.{Program}
 use Rattle.st_values.specs.Value.{Value, number, reference, array, structure, instance, Values, no_values, value_then, Members, no_members, member_then, element, member, place_of_index, part, value_at}
 use Rattle.st_values.specs.Shape.{Shape, Elementary, Enumeration, Reference, Interface, Array, Structure, Instance, Fields, no_fields, field_then, field, element_shape, shape_part, shape_at}
 use Rattle.st_meaning.specs.st_frame.Good.{Fit, FitEach}
-use Rattle.st_meaning.specs.st_frame.Promise.{Each}
+use Rattle.st_meaning.specs.st_frame.Promise.Declarations.{Each}
 use Rattle.st_change.specs.From.{Pairs, old_name}
 use Rattle.st_change.specs.Carry.{Old, before_by, stays, carry, carry_elements, carry_members}
 use Rattle.st_change.proofs.Names.{then_is, then_some}

@@ -4,7 +4,7 @@ use Rattle.st_values.specs.Program.{Program}
 use Rattle.st_values.specs.Value.{Value, Store}
 use Rattle.st_values.specs.Shape.{Shape}
 use Rattle.st_meaning.specs.st_frame.Good.{Fit, Good}
-use Rattle.st_meaning.specs.st_frame.Promise.{Each}
+use Rattle.st_meaning.specs.st_frame.Promise.Declarations.{Each}
 use Rattle.st_change.specs.Carry.{Old, carry}
 use Rattle.st_change.specs.Change.{carry_store}
 use Rattle.st_change.specs.carry_places.Writes.{Write, written, Carries, Covers}

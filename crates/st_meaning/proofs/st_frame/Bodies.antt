@@ -34,9 +34,17 @@ use Rattle.st_meaning.specs.Expression.{selector_note, place_value, name_value, 
 use Rattle.st_meaning.specs.st_frame.Use.{Called, the_function, a_method_of, a_method_from, a_body_of, the_body_from, Owner, the_region, the_instances, Use, names, follows, calls, changes, is_instance, is_interface, is_method, is_followed, named_region, root_owner, owner_along, changed, owner_uses, name_uses, root_uses, receiver, last_kind, called_by, called_of, call_use, called_parameters, is_bound, bound_uses, along_uses, selector_uses, index_uses, expression_uses, tail_uses, argument_uses}
 use Rattle.st_meaning.specs.st_frame.Footprint.{Enters, by_number, by_class, by_text, by_body, by_base}
 use Rattle.st_meaning.specs.st_frame.Good.{Names, Held}
-use Rattle.st_meaning.specs.st_frame.Promise.{Each, IsElementary, IsHeld, IsPath, IsNoInstance, Widens, same_type, wider_number, wider_path, Serves, Scope, NameIs, OwnVariableIs, RegionIs, RootIs, MemberIs, PartIs, LastIs, TargetIs, ElementIs, recipient_variable, own_variable, IsNothing, IsPlace, kind, Suits, Leaves, ResultIs, Entered, SameInOuts, BodyIs, CallIs, CallResultIs, ConversionIs, NegatedIs, IsBool, Common, OperationIs, NamedIs, AlongIs, SelectorIs, CalledAlong, IndexIs, ExpressionIs, TailsAre, OperandIs, ArgumentsAre, IsLocal, ParameterIs, LocalIs, Above, RoutineIs, ProgramIs}
+use Rattle.st_meaning.specs.st_frame.Promise.Types.{IsElementary, IsHeld, IsPath, IsNoInstance, Widens, same_type, wider_number, wider_path, Serves, IsBool}
+use Rattle.st_meaning.specs.st_frame.Promise.Names.{Scope, NameIs, OwnVariableIs, RegionIs, RootIs}
+use Rattle.st_meaning.specs.st_frame.Promise.Places.{MemberIs, PartIs, LastIs, TargetIs, ElementIs, IsNothing, IsPlace, NamedIs}
+use Rattle.st_meaning.specs.st_frame.Promise.Operators.{NegatedIs, Common, OperationIs}
+use Rattle.st_meaning.specs.st_frame.Promise.Calls.{recipient_variable, own_variable, kind, Suits, Leaves, IsLiving, Entered, SameInOuts, BodyIs, CallIs, ResultIs, CallResultIs, ConversionIs}
+use Rattle.st_meaning.specs.st_frame.Promise.Expressions.{AlongIs, SelectorIs, CalledAlong, IndexIs, ExpressionIs, TailsAre, OperandIs, ArgumentsAre}
+use Rattle.st_meaning.specs.st_frame.Promise.Declarations.{Each, IsLocal, ParameterIs, LocalIs, RoutineIs}
+use Rattle.st_meaning.specs.st_frame.Promise.Programs.{Above, ProgramIs}
+use Rattle.st_meaning.proofs.st_frame.Arguments.{arguments_longer, uses_longer}
 use Rattle.st_meaning.proofs.st_frame.Unfolded.{opened, within_bound, region_is, instance_is}
-use Rattle.st_meaning.proofs.st_frame.Spots.{spot_shape, exactly, Within, within_further, meets_serves, as_plain, named_by, by_name, member_meets, field_meets, element_meets, SpotIs, SlotsAre, OwnIs, slot_fits, VariableGiven, GivenIs, GivenAre}
+use Rattle.st_meaning.proofs.st_frame.Spots.{Meets, spot_shape, exactly, Within, within_further, meets_serves, as_plain, named_by, by_name, member_meets, field_meets, element_meets, SpotIs, SlotsAre, OwnIs, slot_fits, VariableGiven, GivenIs, GivenAre}
 use Rattle.st_meaning.proofs.st_frame.OfTypes.{wraps_fit, converted_fits, to_instance, to_reference, Near, OfKind, of_place, to_place, elementary_is, result_is, truth_is, number_is, null_is, path_is, widened, class_is}
 use Rattle.st_meaning.proofs.st_frame.Obeys.{Anything, Obeys, then_obeys, obeys_less, gives_obeys, fails_obeys, some_obeys, test_obeys, spend_obeys, moment_obeys, OwnKnown, own_obeys, local_spot_obeys, read_obeys, write_obeys}
 
@@ -63,7 +71,7 @@ Covered p F W R (changes (the_instances t)) = (q : Path) → Names p q t → W q
 
 -- ---- parameters
 
-next_each : (P : Parameter → Type 0) (ps : List Parameter) (q : Parameter) → Each P ps → next_parameter ps ≡ Some q → P q
+pub next_each : (P : Parameter → Type 0) (ps : List Parameter) (q : Parameter) → Each P ps → next_parameter ps ≡ Some q → P q
 next_each P [] q h e = cc
 next_each P (x ∷ ps) q h e = by (is_output x.sort) (next_each P ps q h.1) e
   where
@@ -71,7 +79,7 @@ next_each P (x ∷ ps) q h e = by (is_output x.sort) (next_each P ps q h.1) e
     by true k f = k f
     by false k f = let d : x ≡ q = cc in subst P d h.0
 
-behind_each : (P : Parameter → Type 0) (ps : List Parameter) → Each P ps → Each P (behind_next ps)
+pub behind_each : (P : Parameter → Type 0) (ps : List Parameter) → Each P ps → Each P (behind_next ps)
 behind_each P [] h = tt
 behind_each P (x ∷ ps) h = by (is_output x.sort) (behind_each P ps h.1)
   where
@@ -79,7 +87,7 @@ behind_each P (x ∷ ps) h = by (is_output x.sort) (behind_each P ps h.1)
     by true k = k
     by false k = h.1
 
-slice_each : (P : Parameter → Type 0) (ps : List Parameter) (n : ℕ) (q : Parameter) → Each P ps → slice_get ps n ≡ Some q → P q
+pub slice_each : (P : Parameter → Type 0) (ps : List Parameter) (n : ℕ) (q : Parameter) → Each P ps → slice_get ps n ≡ Some q → P q
 slice_each P [] n q h e = cc
 slice_each P (x ∷ ps) zero q h e = let d : x ≡ q = cc in subst P d h.0
 slice_each P (x ∷ ps) (suc n) q h e = slice_each P ps n q h.1 e
@@ -141,10 +149,10 @@ module _ (p : Program) (fine : ProgramIs p) where
       by (w ∷ vs) zero h q = let d : w ≡ v = cc in let l = subst (LocalIs p) d h.0 i in (l.0, l.1, l.3)
       by (w ∷ vs) (suc m) h q = by vs m h.1 q
 
-  body_above : (c d : ℕ) (x : Routine) → IsTrue (conforms p c (type.Instance d)) → body_of p d ≡ Some x → Above p c x.class
+  pub body_above : (c d : ℕ) (x : Routine) → IsTrue (conforms p c (type.Instance d)) → body_of p d ≡ Some x → Above p c x.class
   body_above c d x m e = subst (Above p c) (sym (fine.bodies_own d x e)) m
 
-  above_up : (c d : ℕ) (o : Option ℕ) → IsTrue (conforms p c (type.Instance d)) → Above p d o → Above p c o
+  pub above_up : (c d : ℕ) (o : Option ℕ) → IsTrue (conforms p c (type.Instance d)) → Above p d o → Above p c o
   above_up c d None m h = absurd h
   above_up c d (Some e) m h = fine.upward c d (type.Instance e) m h
 
@@ -191,10 +199,10 @@ module _ (p : Program) (fine : ProgramIs p) where
 
       -- ---- what names stand for
 
-      own_spot : (c : ℕ) (q : Path) → OwnKnown p fine F W base base' c q → Found None (type.Instance c) (in_store q)
+      pub own_spot : (c : ℕ) (q : Path) → OwnKnown p fine F W base base' c q → Found None (type.Instance c) (in_store q)
       own_spot c q k = (record { is = by_name p fine q c k.0; near = k.1 }, λ _. k.2)
 
-      variable_spot : (this : Option ℕ) (k : ℕ) (t : StType) → g.this ≡ this → OwnVariableIs p this k t → Runs (named_spot (target.Variable k)) (Found None t)
+      pub variable_spot : (this : Option ℕ) (k : ℕ) (t : StType) → g.this ≡ this → OwnVariableIs p this k t → Runs (named_spot (target.Variable k)) (Found None t)
       variable_spot None k t e h = absurd h
       variable_spot (Some c) k t e h =
           bind (own_obeys p fine F W base base' c e) (λ q n.
@@ -247,7 +255,7 @@ module _ (p : Program) (fine : ProgramIs p) where
           let a = as_plain p fine (spot_shape p (g ∷ gs) spot) t i s.is in
           write_obeys p fine F W base base' spot a.0 v a.2 s.near w (to_place p F t a.0 v i a.1 h)
 
-      held_obeys : (t : StType) (spot : Spot) → IsNoInstance t → IsPath t → Spotted spot t → Runs (held_spot spot) (λ s. (q : Path) × (s ≡ in_store q) × Names p q t)
+      pub held_obeys : (t : StType) (spot : Spot) → IsNoInstance t → IsPath t → Spotted spot t → Runs (held_spot spot) (λ s. (q : Path) × (s ≡ in_store q) × Names p q t)
       held_obeys t spot i j s =
           bind (plain_obeys t spot i s) (λ v k.
           bind (opt fault.Null (path_in v)) (λ q e. give (q, refl, held_names t v q j k e)))
@@ -256,7 +264,7 @@ module _ (p : Program) (fine : ProgramIs p) where
       abbrev Follow : StType → List Use
       Follow t = follows t ∷ []
 
-      target_obeys : (t u : StType) (o : Option Owner) (spot : Spot) → TargetIs t u → AllOf (if (if is_instance t then false else true) then Follow t else []) → Found o t spot
+      pub target_obeys : (t u : StType) (o : Option Owner) (spot : Spot) → TargetIs t u → AllOf (if (if is_instance t then false else true) then Follow t else []) → Found o t spot
           → Runs (followed t spot) (Found (if (if is_instance t then false else true) then Some (the_instances t) else o) u)
       target_obeys (type.Instance c) u o spot h n f = give (subst (λ y. Found o y spot) (sym h) f)
       target_obeys (type.Reference c) u o spot h n f =
@@ -274,17 +282,26 @@ module _ (p : Program) (fine : ProgramIs p) where
           (record { is = member_meets p fine (g ∷ gs) spot c k h.0 f.0.is h.1; near = within_further F spot (step.Field k) f.0.near }, λ w. within_further W spot (step.Field k) (f.1 w))
       variable_obeys t u k o spot h f = absurd h
 
-      part_obeys : (x : Target) (t u : StType) (o : Option Owner) (spot : Spot) → PartIs p t x u → Found o t spot
+      pub part_obeys : (x : Target) (t u : StType) (o : Option Owner) (spot : Spot) → PartIs p t x u → Found o t spot
           → Runs (part_named t spot x) (Found (if (if is_method x then is_interface t else false) then Some (the_instances t) else o) u)
       part_obeys (target.Field k) t u o spot h f =
           give (record { is = field_meets p fine (g ∷ gs) spot t k u f.0.is h; near = within_further F spot (step.Field k) f.0.near }, λ w. within_further W spot (step.Field k) (f.1 w))
       part_obeys (target.Variable k) t u o spot h f = give (variable_obeys t u k o spot h f)
       part_obeys x t u o spot h f = absurd h
 
+      -- a place of the store, or one of an instance's type: no local has such a one
+      abbrev pub OnInstance : Spot → Type 0
+      OnInstance (in_store q) = Unit {0}
+      OnInstance (in_frame d n ss) = (c : ℕ) × Meets p (spot_shape p (g ∷ gs) (in_frame d n ss)) (type.Instance c)
+
+      on_instance : (c : ℕ) (o : Option Owner) (spot : Spot) → Found o (type.Instance c) spot → OnInstance spot
+      on_instance c o (in_store q) f = tt
+      on_instance c o (in_frame d n ss) f = (c, f.0.is)
+
       -- what is found behind a method's name, and behind a part's
       abbrev Ends : Option (List ℕ) → Option Owner → StType → StType → Spot → Type 0
       Ends None o t whole spot = Found o whole spot
-      Ends (Some name) o t whole spot = (q : Path) → path_of spot ≡ Some q → Names p q t × F q.region × (AllOf (changed o) → W q.region)
+      Ends (Some name) o t whole spot = OnInstance spot × ((q : Path) → path_of spot ≡ Some q → Names p q t × F q.region × (AllOf (changed o) → W q.region))
 
       -- an instance at a place
       at_place : (c : ℕ) (o : Option Owner) (spot : Spot) (q : Path) → Found o (type.Instance c) spot → path_of spot ≡ Some q → Names p q (type.Instance c) × F q.region × (AllOf (changed o) → W q.region)
@@ -293,14 +310,17 @@ module _ (p : Program) (fine : ProgramIs p) where
 
       receiver_obeys : (t : StType) (m : ℕ) (u : StType) (name : List ℕ) (o : Option Owner) (spot : Spot) → LastIs p t (target.Method m) u → AllOf (if is_interface t then Follow t else []) → Found o t spot
           → Runs (instance_of t spot) (Ends (Some name) (if is_interface t then Some (the_instances t) else o) t u)
-      receiver_obeys (type.Instance c) m u name o spot h n f = give (λ q e. at_place c o spot q f e)
+      receiver_obeys (type.Instance c) m u name o spot h n f = give (on_instance c o spot f, λ q e. at_place c o spot q f e)
       receiver_obeys (type.Interface i) m u name o spot h n f =
-          less (held_obeys (type.Interface i) spot tt tt f.0) (λ s k q e.
-          let d : k.0 ≡ q = let x = k.1 in cc in
-          subst (λ y. Names p y (type.Interface i) × F y.region × (AllOf (changed (Some (the_instances (type.Interface i)))) → W y.region)) d (k.2, n.0 k.0 k.2, λ w. w.0 k.0 k.2))
+          less (held_obeys (type.Interface i) spot tt tt f.0) (λ s k. (
+            subst OnInstance (sym k.1) tt,
+            λ q e.
+                let d : k.0 ≡ q = let x = k.1 in cc in
+                subst (λ y. Names p y (type.Interface i) × F y.region × (AllOf (changed (Some (the_instances (type.Interface i)))) → W y.region)) d (k.2, n.0 k.0 k.2, λ w. w.0 k.0 k.2),
+          ))
       receiver_obeys t m u name o spot h n f = absurd h
 
-      last_obeys : (x : Target) (t u : StType) (name : List ℕ) (o : Option Owner) (spot : Spot) → LastIs p t x u → AllOf (if (if is_method x then is_interface t else false) then Follow t else []) → Found o t spot
+      pub last_obeys : (x : Target) (t u : StType) (name : List ℕ) (o : Option Owner) (spot : Spot) → LastIs p t x u → AllOf (if (if is_method x then is_interface t else false) then Follow t else []) → Found o t spot
           → Runs (part_named t spot x) (Ends (method_target x name) (if (if is_method x then is_interface t else false) then Some (the_instances t) else o) t u)
       last_obeys (target.Method m) t u name o spot h n f = receiver_obeys t m u name o spot h n f
       last_obeys (target.Field k) t u name o spot h n f = part_obeys (target.Field k) t u o spot h f
@@ -313,11 +333,11 @@ module _ (p : Program) (fine : ProgramIs p) where
       instance_value c (in_store q) s = (named_by p fine q c s.is, s.near)
       instance_value c (in_frame d n ss) s = tt
 
-      place_value_obeys : (t : StType) (place : Run Spot) → Runs place (λ spot. Spotted spot t) → Runs (place_value t place) (Of t)
+      pub place_value_obeys : (t : StType) (place : Run Spot) → Runs place (λ spot. Spotted spot t) → Runs (place_value t place) (Of t)
       place_value_obeys (type.Instance c) place h = bind h (λ spot s. give (path_of spot, refl, instance_value c spot s))
       place_value_obeys t place h = bind h (λ spot s. plain_obeys t spot tt s)
 
-      name_value_obeys : (x : Target) (t : StType) (place : Run Spot) (P : Type 0) → NamedIs p x t P → (P → Runs place (λ spot. Spotted spot t)) → Runs (name_value x t place) (Of t)
+      pub name_value_obeys : (x : Target) (t : StType) (place : Run Spot) (P : Type 0) → NamedIs p x t P → (P → Runs place (λ spot. Spotted spot t)) → Runs (name_value x t place) (Of t)
       name_value_obeys (target.Constant z) t place P h k = give (number_is p F t z h)
       name_value_obeys (target.Enumerator n) t place P h k = give (number_is p F t (pos n) h)
       name_value_obeys x t place P h k = place_value_obeys t place (k h)
@@ -347,7 +367,7 @@ module _ (p : Program) (fine : ProgramIs p) where
       bool : (t u : StType) (v : Value) → IsBool t → IsBool u → Of t v → Of u v
       bool t u v a b h = subst (λ y. Of y v) (a ∙ sym b) h
 
-      operation_obeys : (o : Operator) (t u w : StType) (x y : Value) → OperationIs p o t u w → Of u y → Runs (operation o (elem_of w) x y) (Of w)
+      pub operation_obeys : (o : Operator) (t u w : StType) (x y : Value) → OperationIs p o t u w → Of u y → Runs (operation o (elem_of w) x y) (Of w)
       operation_obeys operator.Plus t u w x y h k = give (result_is p F w _ (common t u w h) (wraps_fit (elem_of w) _))
       operation_obeys operator.Minus t u w x y h k = give (result_is p F w _ (common t u w h) (wraps_fit (elem_of w) _))
       operation_obeys operator.Times t u w x y h k = give (result_is p F w _ (common t u w h) (wraps_fit (elem_of w) _))
@@ -371,28 +391,40 @@ module _ (p : Program) (fine : ProgramIs p) where
       decided_is operator.OrElse t u w x h e k = bool t w x h.0 h.2 k
       decided_is o t u w x h e k = cc
 
-      operated_obeys : (o : Operator) (t u w : StType) (x : Value) (right : Run Value) → OperationIs p o t u w → Of t x → Runs right (Of u) → Runs (operated o w x right) (Of w)
+      pub operated_obeys : (o : Operator) (t u w : StType) (x : Value) (right : Run Value) → OperationIs p o t u w → Of t x → Runs right (Of u) → Runs (operated o w x right) (Of w)
       operated_obeys o t u w x right h k r =
           test (is_decided o x) (λ e. give (decided_is o t u w x h e k)) (λ _. bind r (λ y l. operation_obeys o t u w x y h l))
 
       -- ---- the instance on which a call is made
 
       abbrev pub Receives : Callee → StType → StType → Spot → Type 0
-      Receives c t whole spot = (q : Path) → path_of spot ≡ Some q → Names p q (on c t whole) × F q.region × W q.region
+      Receives c t whole spot = OnInstance spot × ((q : Path) → path_of spot ≡ Some q → Names p q (on c t whole) × F q.region × W q.region)
 
       owned : (o : Option Owner) (t : StType) (q : Path) → AllOf (changed o) → Names p q t × F q.region × (AllOf (changed o) → W q.region) → Names p q t × F q.region × W q.region
       owned o t q u h = (h.0, h.1, h.2 u)
 
-      bare_receives : (x : Target) (name : List ℕ) (t : StType) (spot : Spot) → NameIs p g x t → BodyIs p g.locals t (named_callee x name) → AllOf (changed (named_region x)) → Found (named_region x) t spot → Receives (named_callee x name) t t spot
-      bare_receives (target.Method m) name t spot h b u f = λ q e.
-          subst (λ y. Names p q y × F q.region × W q.region) (sym h.2) (owned None (type.Instance h.0) q u (at_place h.0 None spot q (subst (λ y. Found None y spot) h.2 f) e))
-      bare_receives (target.Local n) name t spot h b u f = λ q e.
-          subst (λ y. Names p q y × F q.region × W q.region) (sym b.1) (owned None (type.Instance b.0) q u (at_place b.0 None spot q (subst (λ y. Found None y spot) b.1 f) e))
-      bare_receives (target.Variable n) name t spot h b u f = λ q e.
-          subst (λ y. Names p q y × F q.region × W q.region) (sym b.1) (owned None (type.Instance b.0) q u (at_place b.0 None spot q (subst (λ y. Found None y spot) b.1 f) e))
-      bare_receives (target.Region r) name t spot h b u f = λ q e.
-          subst (λ y. Names p q y × F q.region × W q.region) (sym b.1)
-          (owned (Some (the_region r)) (type.Instance b.0) q u (at_place b.0 (Some (the_region r)) spot q (subst (λ y. Found (Some (the_region r)) y spot) b.1 f) e))
+      pub bare_receives : (x : Target) (name : List ℕ) (t : StType) (spot : Spot) → NameIs p g x t → BodyIs p g.locals t (named_callee x name) → AllOf (changed (named_region x)) → Found (named_region x) t spot → Receives (named_callee x name) t t spot
+      bare_receives (target.Method m) name t spot h b u f = (
+        on_instance h.0 None spot (subst (λ y. Found None y spot) h.2 f),
+        λ q e.
+            subst (λ y. Names p q y × F q.region × W q.region) (sym h.2) (owned None (type.Instance h.0) q u (at_place h.0 None spot q (subst (λ y. Found None y spot) h.2 f) e)),
+      )
+      bare_receives (target.Local n) name t spot h b u f = (
+        on_instance b.0 None spot (subst (λ y. Found None y spot) b.1 f),
+        λ q e.
+            subst (λ y. Names p q y × F q.region × W q.region) (sym b.1) (owned None (type.Instance b.0) q u (at_place b.0 None spot q (subst (λ y. Found None y spot) b.1 f) e)),
+      )
+      bare_receives (target.Variable n) name t spot h b u f = (
+        on_instance b.0 None spot (subst (λ y. Found None y spot) b.1 f),
+        λ q e.
+            subst (λ y. Names p q y × F q.region × W q.region) (sym b.1) (owned None (type.Instance b.0) q u (at_place b.0 None spot q (subst (λ y. Found None y spot) b.1 f) e)),
+      )
+      bare_receives (target.Region r) name t spot h b u f = (
+        on_instance b.0 (Some (the_region r)) spot (subst (λ y. Found (Some (the_region r)) y spot) b.1 f),
+        λ q e.
+            subst (λ y. Names p q y × F q.region × W q.region) (sym b.1)
+            (owned (Some (the_region r)) (type.Instance b.0) q u (at_place b.0 (Some (the_region r)) spot q (subst (λ y. Found (Some (the_region r)) y spot) b.1 f) e)),
+      )
       bare_receives x name t spot h b u f = absurd h
 
       -- where the search goes from a class, the instance is one of it
@@ -400,13 +432,16 @@ module _ (p : Program) (fine : ProgramIs p) where
       DirectIs by_instance t whole m = Unit {0}
       DirectIs (from_class d) t whole m = (t ≡ type.Instance d) × (m ≡ None → whole ≡ type.Instance d)
 
-      ends_receive : (s : Search) (m : Option (List ℕ)) (o : Option Owner) (t whole : StType) (spot : Spot) → DirectIs s t whole m → BodyIs p g.locals whole (member_callee s m) → AllOf (changed o) → Ends m o t whole spot
+      pub ends_receive : (s : Search) (m : Option (List ℕ)) (o : Option Owner) (t whole : StType) (spot : Spot) → DirectIs s t whole m → BodyIs p g.locals whole (member_callee s m) → AllOf (changed o) → Ends m o t whole spot
           → Receives (member_callee s m) t whole spot
-      ends_receive by_instance None o t whole spot d b u f = λ q e.
-          subst (λ y. Names p q y × F q.region × W q.region) (sym b.1) (owned o (type.Instance b.0) q u (at_place b.0 o spot q (subst (λ y. Found o y spot) b.1 f) e))
-      ends_receive by_instance (Some name) o t whole spot d b u f = λ q e. owned o t q u (f q e)
-      ends_receive (from_class c) None o t whole spot d b u f = λ q e. owned o (type.Instance c) q u (at_place c o spot q (subst (λ y. Found o y spot) (d.1 refl) f) e)
-      ends_receive (from_class c) (Some name) o t whole spot d b u f = λ q e. owned o (type.Instance c) q u (subst (λ y. Names p q y × F q.region × (AllOf (changed o) → W q.region)) d.0 (f q e))
+      ends_receive by_instance None o t whole spot d b u f = (
+        on_instance b.0 o spot (subst (λ y. Found o y spot) b.1 f),
+        λ q e.
+            subst (λ y. Names p q y × F q.region × W q.region) (sym b.1) (owned o (type.Instance b.0) q u (at_place b.0 o spot q (subst (λ y. Found o y spot) b.1 f) e)),
+      )
+      ends_receive by_instance (Some name) o t whole spot d b u f = (f.0, λ q e. owned o t q u (f.1 q e))
+      ends_receive (from_class c) None o t whole spot d b u f = (on_instance c o spot (subst (λ y. Found o y spot) (d.1 refl) f), λ q e. owned o (type.Instance c) q u (at_place c o spot q (subst (λ y. Found o y spot) (d.1 refl) f) e))
+      ends_receive (from_class c) (Some name) o t whole spot d b u f = (f.0, λ q e. owned o (type.Instance c) q u (subst (λ y. Names p q y × F q.region × (AllOf (changed o) → W q.region)) d.0 (f.1 q e)))
 
       -- nothing but `^` stands between SUPER and a method
       direct : (ss : Selectors Note) (d : ℕ) → is_direct ss ≡ true → CalledAlong p g ss (type.Instance d) → (receiver (type.Instance d) ss ≡ type.Instance d) × (last_method None ss ≡ None → last_kind (type.Instance d) ss ≡ type.Instance d)
@@ -421,7 +456,7 @@ module _ (p : Program) (fine : ProgramIs p) where
           let r = direct (selector_then s ss) d e (subst (CalledAlong p g (selector_then s ss)) k h.1) in
           (ap (λ y. receiver y (selector_then s ss)) k ∙ r.0, λ n. ap (λ y. last_kind y (selector_then s ss)) k ∙ r.1 n)
 
-      direct_is : (r : Root Note) (ss : Selectors Note) → RootIs p g r → CalledAlong p g ss (root_note r).kind → DirectIs (search_of r ss) (receiver (root_note r).kind ss) (last_kind (root_note r).kind ss) (last_method None ss)
+      pub direct_is : (r : Root Note) (ss : Selectors Note) → RootIs p g r → CalledAlong p g ss (root_note r).kind → DirectIs (search_of r ss) (receiver (root_note r).kind ss) (last_kind (root_note r).kind ss) (last_method None ss)
       direct_is (root.Name a name) ss h k = tt
       direct_is (root.This a) ss h k = tt
       direct_is (root.Super a) ss h k = by (is_direct ss) refl
@@ -473,7 +508,7 @@ module _ (p : Program) (fine : ProgramIs p) where
       bound_covered : (q : Parameter) (e : Expression Note) → is_in_out q.sort ≡ true → AllOf (bound_uses (is_in_out q.sort) e) → AllOf (bound_uses true e)
       bound_covered q e i u = subst (λ b. AllOf (bound_uses b e)) i u
 
-      passed_obeys : (x : Routine) (o : Option Parameter) (e : Expression Note) (val : Run Value) (place : Run Spot) → RoutineIs p x → ((q : Parameter) → o ≡ Some q → ParameterIs p x q) → Suits p x o e → AllOf (bound_uses (is_bound o) e)
+      pub passed_obeys : (x : Routine) (o : Option Parameter) (e : Expression Note) (val : Run Value) (place : Run Spot) → RoutineIs p x → ((q : Parameter) → o ≡ Some q → ParameterIs p x q) → Suits p x o e → AllOf (bound_uses (is_bound o) e)
           → Runs val (Of (kind e)) → (IsPlace e → AllOf (bound_uses true e) → Runs place (λ spot. Spotted spot (kind e) × Within W spot))
           → Runs (passed o val place) (GivenIs p fine F W (g ∷ gs) x.class x.locals)
       passed_obeys x None e val place ok r h u m n = absurd h
@@ -512,7 +547,7 @@ module _ (p : Program) (fine : ProgramIs p) where
           by None q s n = cc
           by (Some c) q s n = plain_obeys v.kind (into (in_store q) (step.Field k)) i (record { is = member_meets p fine (g ∷ gs) (in_store q) c k v (by_name p fine q c n.0) s; near = n.1 })
 
-      left_obeys : (x : Routine) (o : Option Parameter) (t : StType) (own : Option Path) (f : Frame) → ((q : Parameter) → o ≡ Some q → ParameterIs p x q) → Leaves p x o t → OwnOf x own f → Runs (output_of o own f) (Of t)
+      pub left_obeys : (x : Routine) (o : Option Parameter) (t : StType) (own : Option Path) (f : Frame) → ((q : Parameter) → o ≡ Some q → ParameterIs p x q) → Leaves p x o t → OwnOf x own f → Runs (output_of o own f) (Of t)
       left_obeys x None t own f r h k = absurd h
       left_obeys x (Some q) t own f r h k =
           let a = r q refl in
@@ -531,7 +566,7 @@ module _ (p : Program) (fine : ProgramIs p) where
           by (type.Interface c) j = tt
           by y j = absurd j
 
-      left_plain : (x : Routine) (o : Option Parameter) (t : StType) → ((q : Parameter) → o ≡ Some q → ParameterIs p x q) → Leaves p x o t → IsNoInstance t
+      pub left_plain : (x : Routine) (o : Option Parameter) (t : StType) → ((q : Parameter) → o ≡ Some q → ParameterIs p x q) → Leaves p x o t → IsNoInstance t
       left_plain x None t r h = absurd h
       left_plain x (Some q) t r h =
           let a = r q refl in
@@ -546,8 +581,8 @@ module _ (p : Program) (fine : ProgramIs p) where
 
       -- arguments and outputs, for whatever may be entered
       pub record Passes (k : Called) (P : Routine → Type 0) (args : List Parameter → Run (List Given)) (outs : List Parameter → Option Path → Frame → Run (Unit {0})) : Type 0 where
-        pub given : (x : Routine) → Enters p k x → P x → RoutineIs p x → x.parameters ≡ called_parameters p (Some k) → Runs (args x.parameters) (GivenAre p fine F W (g ∷ gs) x.class x.locals)
-        pub left : (x : Routine) (own : Option Path) (f : Frame) → Enters p k x → P x → RoutineIs p x → x.parameters ≡ called_parameters p (Some k) → OwnOf x own f → Runs (outs x.parameters own f) Anything
+        pub given : (x : Routine) (rest : List Parameter) → Enters p k x → P x → RoutineIs p x → x.parameters ≡ called_parameters p (Some k) ++ rest → Runs (args x.parameters) (GivenAre p fine F W (g ∷ gs) x.class x.locals)
+        pub left : (x : Routine) (rest : List Parameter) (own : Option Path) (f : Frame) → Enters p k x → P x → RoutineIs p x → x.parameters ≡ called_parameters p (Some k) ++ rest → OwnOf x own f → Runs (outs x.parameters own f) Anything
 
       routine_obeys : (x : Routine) (own : Option Path) (args : Run (List Given)) (outs : Option Path → Frame → Run (Unit {0})) → R x → OwnIs p fine F W x.class own → Runs args (GivenAre p fine F W (g ∷ gs) x.class x.locals)
           → ((f : Frame) → SlotsAre p fine F W (g ∷ gs) x.locals f.locals → Runs (outs own f) Anything)
@@ -577,20 +612,20 @@ module _ (p : Program) (fine : ProgramIs p) where
           class_some None c e = cc
           class_some (Some name) c e = (name, refl, e)
 
-      owns : (o : Option ℕ) (q : Path) (c : ℕ) → InstanceAt q c → F q.region → W q.region → Above p c o → OwnIs p fine F W o (Some q)
+      pub owns : (o : Option ℕ) (q : Path) (c : ℕ) → InstanceAt q c → F q.region → W q.region → Above p c o → OwnIs p fine F W o (Some q)
       owns None q c t f w h = tt
       owns (Some d) q c t f w h = (record { class = c; name = t.0; fields = t.1; there = t.2; meets = h }, f, w)
 
-      entered_obeys : (k : Called) (P : Routine → Type 0) (x : Routine) (own : Option Path) (args : List Parameter → Run (List Given)) (outs : List Parameter → Option Path → Frame → Run (Unit {0}))
-          → Enters p k x → Entered p k P → AllOf (calls k ∷ []) → OwnIs p fine F W x.class own → Passes k P args outs → Runs (run_routine p enter x own (args x.parameters) (outs x.parameters)) (LeftBy P)
-      entered_obeys k P x own args outs n e u o a =
-          let b = e.by x n in
+      pub entered_obeys : (k : Called) (P : Routine → Type 0) (x : Routine) (own : Option Path) (args : List Parameter → Run (List Given)) (outs : List Parameter → Option Path → Frame → Run (Unit {0}))
+          → (n : Enters p k x) → IsLiving p n → Entered p k P → AllOf (calls k ∷ []) → OwnIs p fine F W x.class own → Passes k P args outs → Runs (run_routine p enter x own (args x.parameters) (outs x.parameters)) (LeftBy P)
+      entered_obeys k P x own args outs n living e u o a =
+          let b = e.by x n living in
           let ok = entered_is k x n in
-          less (routine_obeys x own (args x.parameters) (outs x.parameters) (u.0 x n) o (a.given x n b.1 ok b.0) (λ f s. a.left x own f n b.1 ok b.0 (o, s))) (λ f s. (x, b.1, ok, s))
+          less (routine_obeys x own (args x.parameters) (outs x.parameters) (u.0 x n) o (a.given x b.rest n b.suits ok b.begins) (λ f s. a.left x b.rest own f n b.suits ok b.begins (o, s))) (λ f s. (x, b.suits, ok, s))
 
       -- ---- a base's body
 
-      base_in_outs : (x : Routine) (d : ℕ) → RoutineIs p x → SameInOuts p g.locals d → body_of p d ≡ Some x → (ps : List Parameter) → Each (ParameterIs p x) ps → Runs (same_in_outs ps) (GivenAre p fine F W (g ∷ gs) x.class x.locals)
+      pub base_in_outs : (x : Routine) (d : ℕ) → RoutineIs p x → SameInOuts p g.locals d → body_of p d ≡ Some x → (ps : List Parameter) → Each (ParameterIs p x) ps → Runs (same_in_outs ps) (GivenAre p fine F W (g ∷ gs) x.class x.locals)
       base_in_outs x d ok same e [] h = give tt
       base_in_outs x d ok same e (q ∷ qs) h =
           bind (base_in_outs x d ok same e qs h.1) (λ rest k.
@@ -618,64 +653,64 @@ module _ (p : Program) (fine : ProgramIs p) where
       store_spot (in_store r) q e = let d : r ≡ q = cc in ap in_store d
       store_spot (in_frame d n ss) q e = cc
 
-      class_found_at : (spot : Spot) (q : Path) (t : StType) → path_of spot ≡ Some q → Names p q t → F q.region → Runs (class_at_spot p enter spot) (λ c. IsTrue (conforms p c t) × InstanceAt q c)
+      pub class_found_at : (spot : Spot) (q : Path) (t : StType) → path_of spot ≡ Some q → Names p q t → F q.region → Runs (class_at_spot p enter spot) (λ c. IsTrue (conforms p c t) × InstanceAt q c)
       class_found_at spot q t e n f = subst (λ y. Runs (class_at_spot p enter y) (λ c. IsTrue (conforms p c t) × InstanceAt q c)) (sym (store_spot spot q e)) (class_found q t n f)
 
-      base_is : (k : Called) (x : Routine) (d : ℕ) → Enters p k x → k ≡ the_body_from d → body_of p d ≡ Some x
+      pub base_is : (k : Called) (x : Routine) (d : ℕ) → Enters p k x → k ≡ the_body_from d → body_of p d ≡ Some x
       base_is k x d (by_base {d = b} e) q = let r : b ≡ d = cc in subst (λ y. body_of p y ≡ Some x) r e
       base_is k x d (by_number e) q = cc
       base_is k x d (by_class c m e) q = cc
       base_is k x d (by_text e) q = cc
       base_is k x d (by_body c m e) q = cc
 
-      pub call_obeys : (c : Callee) (t whole : StType) (goal : Run Spot) (args : List Parameter → Run (List Given)) (outs : List Parameter → Option Path → Frame → Run (Unit {0})) (P : Routine → Type 0) (O G : Type 0)
-          → CallIs p g c O G whole (called_by c t whole) P → AllOf (call_use (called_by c t whole))
+      pub call_obeys : (c : Callee) (t whole : StType) (goal : Run Spot) (args : List Parameter → Run (List Given)) (outs : List Parameter → Option Path → Frame → Run (Unit {0})) (P : Routine → Type 0) (O G V : Type 0)
+          → CallIs p g c O G whole (called_by c t whole) P V → AllOf (call_use (called_by c t whole))
           → (IsMember c → G → BodyIs p g.locals whole c → Runs goal (Receives c t whole))
           → ((k : Called) → called_by c t whole ≡ Some k → Passes k P args outs)
           → IsCall c → Runs (call p enter c goal args outs) (LeftBy P)
-      call_obeys a_conversion t whole goal args outs P O G h u to a i = absurd i
-      call_obeys (a_function n) t whole goal args outs P O G h u to a i =
+      call_obeys a_conversion t whole goal args outs P O G V h u to a i = absurd i
+      call_obeys (a_function n) t whole goal args outs P O G V h u to a i =
           bind (opt fault.Null (slice_get p.functions n)) (λ x e.
-          entered_obeys (the_function n) P x None args outs (by_number e) h u (subst (λ o. OwnIs p fine F W o None) (sym (fine.functions n x e).1) tt) (a (the_function n) refl))
-      call_obeys (a_method by_instance name) t whole goal args outs P O G h u to a i =
+          entered_obeys (the_function n) P x None args outs (by_number e) tt h.0 u (subst (λ o. OwnIs p fine F W o None) (sym (fine.functions n x e).1) tt) (a (the_function n) refl))
+      call_obeys (a_method by_instance name) t whole goal args outs P O G V h u to a i =
           bind (to tt h.0 h.1) (λ spot z.
           bind (opt fault.Null (path_of spot)) (λ q e.
-          let own = z q e in
+          let own = z.1 q e in
           bind (class_found_at spot q t e own.0 own.1) (λ c k.
           bind (opt fault.Null (lookup p c name)) (λ x b.
-          entered_obeys (a_method_of t name) P x (Some q) args outs (by_class c k.0 b) h.2 u (owns x.class q c k.1 own.1 own.2 (fine.methods_above c name x b)) (a (a_method_of t name) refl)))))
-      call_obeys (a_method (from_class d) name) t whole goal args outs P O G h u to a i =
+          entered_obeys (a_method_of t name) P x (Some q) args outs (by_class c k.0 b) (q, k.1.0, k.1.1, k.1.2) h.2 u (owns x.class q c k.1 own.1 own.2 (fine.methods_above c name x b)) (a (a_method_of t name) refl)))))
+      call_obeys (a_method (from_class d) name) t whole goal args outs P O G V h u to a i =
           bind (to tt h.0 h.1) (λ spot z.
           bind (opt fault.Null (path_of spot)) (λ q e.
-          let own = z q e in
+          let own = z.1 q e in
           bind (class_found_at spot q (type.Instance d) e own.0 own.1) (λ c k.
           bind (opt fault.Null (lookup p d name)) (λ x b.
-          entered_obeys (a_method_from d name) P x (Some q) args outs (by_text b) h.2 u (owns x.class q c k.1 own.1 own.2 (above_up c d x.class k.0 (fine.methods_above d name x b))) (a (a_method_from d name) refl)))))
-      call_obeys (a_body by_instance) t whole goal args outs P O G h u to a i =
+          entered_obeys (a_method_from d name) P x (Some q) args outs (by_text b) tt h.2 u (owns x.class q c k.1 own.1 own.2 (above_up c d x.class k.0 (fine.methods_above d name x b))) (a (a_method_from d name) refl)))))
+      call_obeys (a_body by_instance) t whole goal args outs P O G V h u to a i =
           bind (to tt h.0 h.1) (λ spot z.
           bind (opt fault.Null (path_of spot)) (λ q e.
-          let own = z q e in
+          let own = z.1 q e in
           bind (class_found_at spot q whole e own.0 own.1) (λ c k.
           bind (opt fault.Null (body_of p c)) (λ x b.
           let l = instance_is p fine.regions q c k.1.0 k.1.1 k.1.2 in
-          entered_obeys (a_body_of whole) P x (Some q) args outs (by_body c k.0 b) h.2 u (owns x.class q c k.1 own.1 own.2 (body_above c c x (fine.itself c l.0 l.1) b)) (a (a_body_of whole) refl)))))
-      call_obeys (a_body (from_class d)) t whole goal args outs P O G h u to a i =
+          entered_obeys (a_body_of whole) P x (Some q) args outs (by_body c k.0 b) (q, k.1.0, k.1.1, k.1.2) h.2 u (owns x.class q c k.1 own.1 own.2 (body_above c c x (fine.itself c l.0 l.1) b)) (a (a_body_of whole) refl)))))
+      call_obeys (a_body (from_class d)) t whole goal args outs P O G V h u to a i =
           let b = a (the_body_from d) refl in
           bind (to tt h.0 h.1) (λ spot z.
           bind (opt fault.Null (path_of spot)) (λ q e.
-          let own = z q e in
+          let own = z.1 q e in
           bind (opt fault.Null (body_of p d)) (λ x m.
-          entered_obeys (the_body_from d) P x (Some q) same_in_outs outs (by_base m) h.2 u
+          entered_obeys (the_body_from d) P x (Some q) same_in_outs outs (by_base m) tt h.2 u
           (owns x.class q own.0.class (own.0.name, own.0.fields, own.0.there) own.1 own.2 (body_above own.0.class d x own.0.meets m))
-          (record { given = λ y n r ok eq. base_in_outs y d ok h.1 (base_is (the_body_from d) y d n refl) y.parameters ok.parameters; left = b.left }))))
+          (record { given = λ y rest n r ok eq. base_in_outs y d ok h.1 (base_is (the_body_from d) y d n refl) y.parameters ok.parameters; left = b.left }))))
 
-      call_result_is : (c : Callee) (t : StType) (P : Routine → Type 0) (x : Routine) → CallResultIs c t P x → P x
+      pub call_result_is : (c : Callee) (t : StType) (P : Routine → Type 0) (x : Routine) → CallResultIs c t P x → P x
       call_result_is a_conversion t P x h = h
       call_result_is (a_function n) t P x h = h.1
       call_result_is (a_method s name) t P x h = h.1
       call_result_is (a_body s) t P x h = h.1
 
-      result_obeys : (t : StType) (P : Routine → Type 0) (f : Frame) → LeftBy (λ x. ResultIs x t × P x) f → Runs (there (result_of f)) (Of t)
+      pub result_obeys : (t : StType) (P : Routine → Type 0) (f : Frame) → LeftBy (λ x. ResultIs x t × P x) f → Runs (there (result_of f)) (Of t)
       result_obeys t P f h =
           let v = h.1.0 in
           less (opt fault.Null (frame_value (Some f) 0)) (λ w e.
@@ -683,7 +718,7 @@ module _ (p : Program) (fine : ProgramIs p) where
           let u = within_bound p v.0.kind a.1.0 a.1.1 in
           subst (λ y. Of y w) v.2 (of_place p F v.0.kind a.1.0 w (no_instance v.0.kind a.1.0 u a.1.2) u a.1.3))
 
-      call_value_obeys : (c : Callee) (t : StType) (P : Routine → Type 0) (op : Run Value) (called : Run Frame) → ConversionIs c t → (IsConversion c → Runs op Anything) → (IsCall c → Runs called (LeftBy (CallResultIs c t P))) → Runs (call_value c t op called) (Of t)
+      pub call_value_obeys : (c : Callee) (t : StType) (P : Routine → Type 0) (op : Run Value) (called : Run Frame) → ConversionIs c t → (IsConversion c → Runs op Anything) → (IsCall c → Runs called (LeftBy (CallResultIs c t P))) → Runs (call_value c t op called) (Of t)
       call_value_obeys a_conversion t P op called h k l = bind (k tt) (λ v _. give (result_is p F t _ h (converted_fits (elem_of t) (number_in v))))
       call_value_obeys (a_function n) t P op called h k l = bind (l tt) (λ f m. result_obeys t P f m)
       call_value_obeys (a_method s name) t P op called h k l = bind (l tt) (λ f m. result_obeys t P f m)
@@ -695,16 +730,16 @@ module _ (p : Program) (fine : ProgramIs p) where
       call_effect_obeys (a_method s name) P op called k l = bind (l tt) (λ f m. give tt)
       call_effect_obeys (a_body s) P op called k l = bind (l tt) (λ f m. give tt)
 
-      pub operand_is : (c : Callee) (O G : Type 0) (whole : StType) (k : Option Called) (P : Routine → Type 0) → IsConversion c → CallIs p g c O G whole k P → O
-      operand_is a_conversion O G whole k P i h = h
-      operand_is c O G whole k P i h = absurd i
+      pub operand_is : (c : Callee) (O G : Type 0) (whole : StType) (k : Option Called) (P : Routine → Type 0) (V : Type 0) → IsConversion c → CallIs p g c O G whole k P V → O
+      operand_is a_conversion O G whole k P V i h = h
+      operand_is c O G whole k P V i h = absurd i
 
-      place_is : (x : Target) (t : StType) (P : Type 0) → IsNothing x → NamedIs p x t P → P
+      pub place_is : (x : Target) (t : StType) (P : Type 0) → IsNothing x → NamedIs p x t P → P
       place_is target.Nothing t P i h = h
       place_is x t P i h = absurd i
 
       -- what is called, on what it stands, where the way to it is known
-      goal_by : (r : Root Note) (ss : Selectors Note) → RootIs p g r → CalledAlong p g ss (root_note r).kind → BodyIs p g.locals (last_kind (root_note r).kind ss) (callee_of r ss)
+      pub goal_by : (r : Root Note) (ss : Selectors Note) → RootIs p g r → CalledAlong p g ss (root_note r).kind → BodyIs p g.locals (last_kind (root_note r).kind ss) (callee_of r ss)
           → AllOf (owner_uses r ss) → AllOf (root_uses r)
           → ((spot : Spot) → Found (root_owner r) (root_note r).kind spot
           → Runs (along p enter ss (root_note r).kind spot) (Ends (last_method None ss) (owner_along (root_owner r) (root_note r).kind ss) (receiver (root_note r).kind ss) (last_kind (root_note r).kind ss)))
@@ -726,6 +761,17 @@ module _ (p : Program) (fine : ProgramIs p) where
           less (v spot f) (λ x e.
           ends_receive (search_of (root.Super a) ss) (last_method None ss) (owner_along None a.kind ss) (receiver a.kind ss) (last_kind a.kind ss) x (direct_is (root.Super a) ss h k) b w e))
 
+      -- arguments by the declared parameters serve a routine that has more
+      pub arguments_serve : (k : Called) (r : Root Note) (ss : Selectors Note) (x : Routine) (rest : List Parameter) (xs : Arguments Note) → called_of r ss ≡ Some k → x.parameters ≡ called_parameters p (Some k) ++ rest
+          → ArgumentsAre p g x (called_parameters p (called_of r ss)) (called_parameters p (called_of r ss)) xs → AllOf (argument_uses p (called_parameters p (called_of r ss)) (called_parameters p (called_of r ss)) xs)
+          → ArgumentsAre p g x x.parameters x.parameters xs × AllOf (argument_uses p x.parameters x.parameters xs)
+      arguments_serve k r ss x rest xs q eq h u =
+          let ps = called_parameters p (called_of r ss) in
+          let e : ps ++ rest ≡ x.parameters = ap (λ o. called_parameters p o ++ rest) q ∙ sym eq in (
+            subst (λ l. ArgumentsAre p g x l l xs) e (arguments_longer rest p g x xs ps ps h),
+            subst (λ l. AllOf (argument_uses p l l xs)) e (subst AllOf (sym (uses_longer rest p g x xs ps ps h)) u),
+          )
+
       -- ---- the tree
 
       mutual
@@ -736,13 +782,13 @@ module _ (p : Program) (fine : ProgramIs p) where
             bind (selected_obeys s o t spot h.0 (front _ (if is_followed t s then follows t ∷ [] else []) _ u) (front _ (selector_uses p s) _ rest) f) (λ part k.
             along_obeys ss (if is_followed t s then Some (the_instances t) else o) (selector_note s).kind part h.1 (back _ (selector_uses p s) _ rest) k)
 
-        selected_obeys : (s : Selector Note) (o : Option Owner) (t : StType) (spot : Spot) → SelectorIs p g s t → AllOf (if is_followed t s then follows t ∷ [] else []) → AllOf (selector_uses p s) → Found o t spot
+        pub selected_obeys : (s : Selector Note) (o : Option Owner) (t : StType) (spot : Spot) → SelectorIs p g s t → AllOf (if is_followed t s then follows t ∷ [] else []) → AllOf (selector_uses p s) → Found o t spot
             → Runs (selected p enter s t spot) (Found (if is_followed t s then Some (the_instances t) else o) (selector_note s).kind)
         selected_obeys (Field a name) o t spot h n u f = part_obeys a.target t a.kind o spot h f
         selected_obeys (Index a es) o t spot h n u f = indexed_obeys es o t a.kind spot h u f
         selected_obeys (tree.Target a) o t spot h n u f = target_obeys t a.kind o spot h n f
 
-        indexed_obeys : (es : Expressions Note) (o : Option Owner) (t w : StType) (spot : Spot) → IndexIs p g es t w → AllOf (index_uses p es) → Found o t spot → Runs (indexed p enter es t spot) (Found o w)
+        pub indexed_obeys : (es : Expressions Note) (o : Option Owner) (t w : StType) (spot : Spot) → IndexIs p g es t w → AllOf (index_uses p es) → Found o t spot → Runs (indexed p enter es t spot) (Found o w)
         indexed_obeys no_expressions o t w spot h u f = give (subst (λ y. Found o y spot) h f)
         indexed_obeys (expression_then e es) o t w spot h u f =
             let a = array_of (out-StType t) h.2.0 h.2.1 in
@@ -754,7 +800,7 @@ module _ (p : Program) (fine : ProgramIs p) where
             (record { is = element_meets p fine (g ∷ gs) spot t a.0 a.1 h.2.0 i a.2 f.0.is c.0 c.1; near = within_further F spot (step.Element i) f.0.near }, λ n. within_further W spot (step.Element i) (f.1 n)) in
             subst (λ y. Runs (indexed p enter es y (into spot (step.Element i))) (Found o w)) (sym q) (indexed_obeys es o h.2.0 w (into spot (step.Element i)) h.2.2 (back _ (expression_uses p e) _ u) k)))
 
-        called_along : (ss : Selectors Note) (o : Option Owner) (t : StType) (spot : Spot) → CalledAlong p g ss t → AllOf (along_uses p t ss) → Found o t spot
+        pub called_along : (ss : Selectors Note) (o : Option Owner) (t : StType) (spot : Spot) → CalledAlong p g ss t → AllOf (along_uses p t ss) → Found o t spot
             → Runs (along p enter ss t spot) (Ends (last_method None ss) (owner_along o t ss) (receiver t ss) (last_kind t ss))
         called_along no_selectors o t spot h u f = give f
         called_along (selector_then (Field a name) no_selectors) o t spot h u f =
@@ -786,20 +832,23 @@ module _ (p : Program) (fine : ProgramIs p) where
             less (along_obeys ss (root_owner r) (root_note r).kind spot k.1 (back _ (root_uses r) _ u) f) (λ s z. subst (Spotted s) k.2 z.0)))
         value_obeys (Call a r ss xs) h u =
             let c = callee_of r ss in
+            let ps = called_parameters p (called_of r ss) in
             let own_u = back _ (call_use (called_of r ss)) _ u in
             let place_u = back _ (owner_uses r ss) _ own_u in
             let along_u = back _ (root_uses r) _ place_u in
             let args_u = back _ (along_uses p (root_note r).kind ss) _ along_u in
-            call_value_obeys c a.kind (λ x. ArgumentsAre p g x x.parameters x.parameters xs) (operand p enter xs) _ h.0
-            (λ i. operand_obeys xs (called_parameters p (called_of r ss)) (called_parameters p (called_of r ss)) (operand_is c _ _ _ _ _ i h.1) args_u)
+            call_value_obeys c a.kind (λ x. ArgumentsAre p g x ps ps xs) (operand p enter xs) _ h.0
+            (λ i. operand_obeys xs ps ps (operand_is c _ _ _ _ _ _ i h.1) args_u)
             (λ i.
-            call_obeys c (receiver (root_note r).kind ss) (last_kind (root_note r).kind ss) _ _ _ _ _ _ h.1 (front _ (call_use (called_of r ss)) _ u)
+            call_obeys c (receiver (root_note r).kind ss) (last_kind (root_note r).kind ss) _ _ _ _ _ _ _ h.1 (front _ (call_use (called_of r ss)) _ u)
             (λ m k b. goal_by r ss k.0 k.1 b (front _ (owner_uses r ss) _ own_u) (front _ (root_uses r) _ place_u) (λ spot f. called_along ss (root_owner r) (root_note r).kind spot k.1 (front _ (along_uses p (root_note r).kind ss) _ along_u) f))
             (λ k q. record {
-              given = λ x n b ok eq.
-                  arguments_obey xs x x.parameters x.parameters ok ok.parameters ok.parameters (call_result_is c a.kind _ x b) (subst (λ ps. AllOf (argument_uses p ps ps xs)) (ap (called_parameters p) q ∙ sym eq) args_u);
-              left = λ x own f n b ok eq o.
-                  outputs_obey xs x x.parameters x.parameters own f ok.parameters (call_result_is c a.kind _ x b) (subst (λ ps. AllOf (argument_uses p ps ps xs)) (ap (called_parameters p) q ∙ sym eq) args_u) o;
+              given = λ x rest n b ok eq.
+                  let m = arguments_serve k r ss x rest xs q eq (call_result_is c a.kind _ x b) args_u in
+                  arguments_obey xs x x.parameters x.parameters ok ok.parameters ok.parameters m.0 m.1;
+              left = λ x rest own f n b ok eq o.
+                  let m = arguments_serve k r ss x rest xs q eq (call_result_is c a.kind _ x b) args_u in
+                  outputs_obey xs x x.parameters x.parameters own f ok.parameters m.0 m.1 o;
             })
             i)
         value_obeys (Enumerator a t b name) h u = give (number_is p F a.kind _ h)
@@ -813,13 +862,13 @@ module _ (p : Program) (fine : ProgramIs p) where
         value_obeys (Chain a e ts) h u =
             bind (value_obeys e h.0 (front _ (expression_uses p e) _ u)) (λ v k. chained_obeys ts v (kind e) a.kind h.1 (back _ (expression_uses p e) _ u) k)
 
-        chained_obeys : (ts : Tails Note) (v : Value) (t w : StType) → TailsAre p g t ts w → AllOf (tail_uses p ts) → Of t v → Runs (chained p enter v ts) (Of w)
+        pub chained_obeys : (ts : Tails Note) (v : Value) (t w : StType) → TailsAre p g t ts w → AllOf (tail_uses p ts) → Of t v → Runs (chained p enter v ts) (Of w)
         chained_obeys no_tails v t w h u k = give (subst (λ y. Of y v) h k)
         chained_obeys (tail_then a o e ts) v t w h u k =
             bind (operated_obeys o t (kind e) a.kind v (value p enter e) h.1 k (value_obeys e h.0 (front _ (expression_uses p e) _ u))) (λ x l.
             chained_obeys ts x a.kind w h.2 (back _ (expression_uses p e) _ u) l)
 
-        bound_obeys : (e : Expression Note) → IsPlace e → ExpressionIs p g e → AllOf (bound_uses true e) → AllOf (expression_uses p e) → Runs (bound_place p enter e) (λ spot. Spotted spot (kind e) × Within W spot)
+        pub bound_obeys : (e : Expression Note) → IsPlace e → ExpressionIs p g e → AllOf (bound_uses true e) → AllOf (expression_uses p e) → Runs (bound_place p enter e) (λ spot. Spotted spot (kind e) × Within W spot)
         bound_obeys (Place a r ss) i h w u =
             let k = place_is a.target a.kind _ i h in
             bind (root_obeys r k.0 (front _ (root_uses r) _ u)) (λ spot f.
@@ -828,7 +877,7 @@ module _ (p : Program) (fine : ProgramIs p) where
 
         pub operand_obeys : (xs : Arguments Note) (ps left : List Parameter) → OperandIs p g xs → AllOf (argument_uses p ps left xs) → Runs (operand p enter xs) Anything
         operand_obeys (argument_then (Positional e) xs) ps left h u =
-            less (value_obeys e h (front _ (expression_uses p e) _ (back _ (bound_uses (is_bound (next_parameter left)) e) _ u))) (λ v k. tt)
+            less (value_obeys e h.0 (front _ (expression_uses p e) _ (back _ (bound_uses (is_bound (next_parameter left)) e) _ u))) (λ v k. tt)
         operand_obeys xs ps left h u = absurd h
 
         pub arguments_obey : (xs : Arguments Note) (x : Routine) (ps left : List Parameter) → RoutineIs p x → Each (ParameterIs p x) ps → Each (ParameterIs p x) left → ArgumentsAre p g x ps left xs → AllOf (argument_uses p ps left xs)

@@ -1,5 +1,5 @@
 -- Statements whose uses are covered stay within the footprint: by induction on the tree.
-use Rattle.std.proofs.Common.{◌≡◌, ℕ, zero, suc, ℤ, pos, negsuc, Bool, true, false, List, ◌∷◌, Option, Some, None, refl, sym, ap, ◌∙◌, subst}
+use Rattle.std.proofs.Common.{◌≡◌, ℕ, zero, suc, ℤ, pos, negsuc, Bool, true, false, List, ◌∷◌, Option, Some, None, refl, sym, ap, subst}
 use Rattle.std.specs.Prelude.{if◌then◌else◌}
 use Rattle.plc_text.specs.declared.fault.FaultKind.{FaultKind}
 use Rattle.st_types.specs.declared.elem.Elem.{Elem}
@@ -21,13 +21,18 @@ use Rattle.st_meaning.specs.Call.{callee_of, Enter, call, call_effect}
 use Rattle.st_meaning.specs.Expression.{value, place, operand, arguments, outputs}
 use Rattle.st_meaning.specs.Loop.{Flow, goes_on, exits, continues, returns, loop, loop_until}
 use Rattle.st_meaning.specs.Statement.{no_zero, add_step, then_step, count, attempted, step_value, effect, effects, hold, first_true, first_holding, otherwise_effect}
-use Rattle.st_meaning.specs.st_frame.Use.{Use, named_region, root_owner, changed, owner_uses, name_uses, root_uses, receiver, last_kind, called_of, call_use, called_parameters, expression_uses, argument_uses, place_uses, tried, step_uses, statement_uses, body_uses, branch_uses, case_uses, otherwise_uses}
+use Rattle.st_meaning.specs.st_frame.Use.{Use, named_region, root_owner, changed, owner_uses, name_uses, root_uses, receiver, last_kind, called_of, call_use, called_parameters, expression_uses, place_uses, tried, step_uses, statement_uses, body_uses, branch_uses, case_uses, otherwise_uses}
 use Rattle.st_meaning.specs.st_frame.Good.{Names, Held, Fit}
-use Rattle.st_meaning.specs.st_frame.Promise.{IsElementary, IsHeld, IsPath, IsNoInstance, Scope, kind, ExpressionIs, PlaceIs, StepIs, StatementIs, StatementsAre, BranchesAre, CasesAre, OtherwiseIs, ProgramIs}
+use Rattle.st_meaning.specs.st_frame.Promise.Types.{IsElementary, IsHeld, IsPath, IsNoInstance}
+use Rattle.st_meaning.specs.st_frame.Promise.Names.{Scope}
+use Rattle.st_meaning.specs.st_frame.Promise.Calls.{kind}
+use Rattle.st_meaning.specs.st_frame.Promise.Expressions.{ExpressionIs, PlaceIs}
+use Rattle.st_meaning.specs.st_frame.Promise.Statements.{StepIs, StatementIs, StatementsAre, BranchesAre, CasesAre, OtherwiseIs}
+use Rattle.st_meaning.specs.st_frame.Promise.Programs.{ProgramIs}
 use Rattle.st_meaning.proofs.st_frame.Spots.{SpotIs, Within}
 use Rattle.st_meaning.proofs.st_frame.OfTypes.{wraps_fit, OfKind, elementary_is, result_is, held_is, path_is, path_near, to_place, widened}
 use Rattle.st_meaning.proofs.st_frame.Obeys.{Anything, Obeys, then_obeys, obeys_less, gives_obeys, fails_obeys, test_obeys, line_obeys, spend_obeys, unless_obeys, loop_obeys, until_obeys}
-use Rattle.st_meaning.proofs.st_frame.Bodies.{All, front, back, Covered, CallsObey, InstanceAt, plain_obeys, write_plain, class_found, named_obeys, root_obeys, goal_obeys, along_obeys, value_obeys, operand_is, operand_obeys, arguments_obey, outputs_obey, call_obeys, call_effect_obeys}
+use Rattle.st_meaning.proofs.st_frame.Bodies.{All, front, back, Covered, CallsObey, InstanceAt, plain_obeys, write_plain, class_found, named_obeys, root_obeys, goal_obeys, along_obeys, value_obeys, operand_is, operand_obeys, arguments_obey, outputs_obey, call_obeys, call_effect_obeys, arguments_serve}
 
 -- what is a number is one again
 number_again : (p : Program) (e : Elem) (v : Value) → Fit p (Elementary e) v → Fits e (number_in v)
@@ -69,12 +74,12 @@ module _ (p : Program) (fine : ProgramIs p) (F W : ℕ → Type 0) (base base' :
   expr e h u = value_obeys p fine F W base base' R enter reached g gs e h u
 
   -- a place that is written
-  target : (r : Root Note) (ss : Selectors Note) (t : StType) → PlaceIs p g r ss t → AllOf (owner_uses r ss) → AllOf (place_uses p r ss) → Runs (place p enter r ss) (λ spot. SpotIs p fine F W (g ∷ gs) spot t × Within W spot)
+  pub target : (r : Root Note) (ss : Selectors Note) (t : StType) → PlaceIs p g r ss t → AllOf (owner_uses r ss) → AllOf (place_uses p r ss) → Runs (place p enter r ss) (λ spot. SpotIs p fine F W (g ∷ gs) spot t × Within W spot)
   target r ss t h w u =
       bind (root_obeys p fine F W base base' R enter reached g gs r h.0 (front _ (root_uses r) _ u)) (λ spot f.
       less (along_obeys p fine F W base base' R enter reached g gs ss (root_owner r) (root_note r).kind spot h.1 (back _ (root_uses r) _ u) f) (λ s z. (subst (SpotIs p fine F W (g ∷ gs) s) h.2 z.0, z.1 w)))
 
-  put : (t : StType) (spot : Spot) (v : Value) → IsNoInstance t → SpotIs p fine F W (g ∷ gs) spot t → Within W spot → Of t v → Runs (write spot v) Anything
+  pub put : (t : StType) (spot : Spot) (v : Value) → IsNoInstance t → SpotIs p fine F W (g ∷ gs) spot t → Within W spot → Of t v → Runs (write spot v) Anything
   put t spot v i s w h = write_plain p fine F W base base' R enter reached g gs t spot v i s w h
 
   held_plain : (t : StType) → IsHeld t → IsNoInstance t
@@ -87,20 +92,20 @@ module _ (p : Program) (fine : ProgramIs p) (F W : ℕ → Type 0) (base base' :
 
   -- ---- ?=
 
-  region_near : (u : StType) (v : Value) (q : Path) → IsPath u → Of u v → AllOf (tried p u) → path_in v ≡ Some q → Names p q u → F q.region
+  pub region_near : (u : StType) (v : Value) (q : Path) → IsPath u → Of u v → AllOf (tried p u) → path_in v ≡ Some q → Names p q u → F q.region
   region_near (type.Instance c) v q i h n e k = path_near p F c v q h e
   region_near (type.Reference c) v q i h n e k = n.0 q k
   region_near (type.Interface c) v q i h n e k = n.0 q k
   region_near u v q i h n e k = absurd i
 
-  tried_is : (t : StType) (q : Path) (c : ℕ) → InstanceAt p fine F W base base' R enter reached g gs q c → Held p t (if conforms p c t then Some q else None)
+  pub tried_is : (t : StType) (q : Path) (c : ℕ) → InstanceAt p fine F W base base' R enter reached g gs q c → Held p t (if conforms p c t then Some q else None)
   tried_is t q c n = by (conforms p c t) refl
     where
       by : (b : Bool) → conforms p c t ≡ b → Held p t (if b then Some q else None)
       by true e = record { class = c; name = n.0; fields = n.1; there = n.2; meets = e }
       by false e = tt
 
-  attempted_obeys : (t u : StType) (v : Value) → IsHeld t → IsPath u → Of u v → AllOf (tried p u) → Runs (attempted p enter t (path_in v)) (Of t)
+  pub attempted_obeys : (t u : StType) (v : Value) → IsHeld t → IsPath u → Of u v → AllOf (tried p u) → Runs (attempted p enter t (path_in v)) (Of t)
   attempted_obeys t u v i j h n =
       let a = path_is p F u v j h in
       by (path_in v) refl a.0 (ap path_in a.1) a.2
@@ -115,12 +120,12 @@ module _ (p : Program) (fine : ProgramIs p) (F W : ℕ → Type 0) (base base' :
 
   -- ---- FOR
 
-  no_zero_obeys : (z : ℤ) → Runs (no_zero z) Anything
+  pub no_zero_obeys : (z : ℤ) → Runs (no_zero z) Anything
   no_zero_obeys (pos zero) = fail
   no_zero_obeys (pos (suc n)) = give tt
   no_zero_obeys (negsuc n) = give tt
 
-  step_obeys : (by : Option (Expression Note)) (t : StType) → StepIs p g by t → AllOf (step_uses p by) → Runs (step_value p enter by) Anything
+  pub step_obeys : (by : Option (Expression Note)) (t : StType) → StepIs p g by t → AllOf (step_uses p by) → Runs (step_value p enter by) Anything
   step_obeys None t h u = give tt
   step_obeys (Some e) t h u = bind (expr e h.0 u) (λ v _. no_zero_obeys (number_in v))
 
@@ -133,19 +138,19 @@ module _ (p : Program) (fine : ProgramIs p) (F W : ℕ → Type 0) (base base' :
   abbrev Counted : StType → Spot → Type 0
   Counted t spot = SpotIs p fine F W (g ∷ gs) spot t × Within W spot
 
-  add_step_obeys : (t : StType) (step : ℤ) (where_is : Run Spot) → IsElementary t → Runs where_is (Counted t) → Runs (add_step (elem_of t) step where_is) Anything
+  pub add_step_obeys : (t : StType) (step : ℤ) (where_is : Run Spot) → IsElementary t → Runs where_is (Counted t) → Runs (add_step (elem_of t) step where_is) Anything
   add_step_obeys t step where_is i h =
       bind h (λ spot s.
       bind (plain_obeys p fine F W base base' R enter reached g gs t spot (elementary_plain t i) s.0) (λ v _.
       bind (put t spot _ (elementary_plain t i) s.0 s.1 (result_is p F t _ i (wraps_fit (elem_of t) _))) (λ _ _. give tt)))
 
-  count_obeys : (t : StType) (end step : ℤ) (where_is : Run Spot) (body : Run Flow) → IsElementary t → Runs where_is (Counted t) → Runs body Anything → Runs (count (elem_of t) where_is end step body) Anything
+  pub count_obeys : (t : StType) (end step : ℤ) (where_is : Run Spot) (body : Run Flow) → IsElementary t → Runs where_is (Counted t) → Runs body Anything → Runs (count (elem_of t) where_is end step body) Anything
   count_obeys t end step where_is body i h k =
       loop_obeys p fine F W base base' _ _
       (bind h (λ spot s. bind (plain_obeys p fine F W base base' R enter reached g gs t spot (elementary_plain t i) s.0) (λ v _. give tt)))
       (bind k (λ flow _. then_step_obeys flow _ (add_step_obeys t step where_is i h)))
 
-  number_kind : (t : StType) (v : Value) → IsElementary t → Of t v → Of t (number (number_in v))
+  pub number_kind : (t : StType) (v : Value) → IsElementary t → Of t v → Of t (number (number_in v))
   number_kind t v i h =
       let k = subst (λ y. Of y v) i.1 h in
       let f : Fit p (Elementary i.0) v = to_place p F (type.Elementary i.0) (Elementary i.0) v tt (shape_laws.elementary p i.0) k in
@@ -153,11 +158,11 @@ module _ (p : Program) (fine : ProgramIs p) (F W : ℕ → Type 0) (base base' :
 
   -- ---- statements
 
-  condition : (e : Expression Note) → ExpressionIs p g e → AllOf (expression_uses p e) → Runs (value p enter e >>= λ v. gives (is_true v)) Anything
+  pub condition : (e : Expression Note) → ExpressionIs p g e → AllOf (expression_uses p e) → Runs (value p enter e >>= λ v. gives (is_true v)) Anything
   condition e h u = bind (expr e h u) (λ v _. give tt)
 
   mutual
-    effect_obeys : (s : Statement Note) → StatementIs p g s → AllOf (statement_uses p s) → Runs (effect p enter s) Anything
+    pub effect_obeys : (s : Statement Note) → StatementIs p g s → AllOf (statement_uses p s) → Runs (effect p enter s) Anything
     effect_obeys (Empty line) h u = give tt
     effect_obeys (Assign line a r ss e) h u =
         let rest = back _ (owner_uses r ss) _ u in
@@ -179,15 +184,17 @@ module _ (p : Program) (fine : ProgramIs p) (F W : ℕ → Type 0) (base base' :
         let place_u = front _ (place_uses p r ss) _ rest_u in
         let args_u = back _ (place_uses p r ss) _ rest_u in
         at {m = do call_effect (callee_of r ss) (operand p enter xs) (call p enter (callee_of r ss) (place p enter r ss) (λ qs. arguments p enter qs qs xs) (λ qs own f. outputs p enter qs own f xs)); gives goes_on} line (bind (call_effect_obeys p fine F W base base' R enter reached g gs c _ (operand p enter xs) _
-        (λ i. operand_obeys p fine F W base base' R enter reached g gs xs ps ps (operand_is p fine F W base base' R enter reached g gs c _ _ _ _ _ i h) args_u)
+        (λ i. operand_obeys p fine F W base base' R enter reached g gs xs ps ps (operand_is p fine F W base base' R enter reached g gs c _ _ _ _ _ _ i h) args_u)
         (λ i.
-        call_obeys p fine F W base base' R enter reached g gs c (receiver (root_note r).kind ss) (last_kind (root_note r).kind ss) _ _ _ _ _ _ h (front _ (call_use (called_of r ss)) _ u)
+        call_obeys p fine F W base base' R enter reached g gs c (receiver (root_note r).kind ss) (last_kind (root_note r).kind ss) _ _ _ _ _ _ _ h (front _ (call_use (called_of r ss)) _ u)
         (λ m k b. goal_obeys p fine F W base base' R enter reached g gs r ss k.0 k.1 b (front _ (owner_uses r ss) _ own_u) (front _ (root_uses r) _ place_u) (back _ (root_uses r) _ place_u))
         (λ k q. record {
-          given = λ x n b ok eq.
-              arguments_obey p fine F W base base' R enter reached g gs xs x x.parameters x.parameters ok ok.parameters ok.parameters b (subst (λ ys. AllOf (argument_uses p ys ys xs)) (ap (called_parameters p) q ∙ sym eq) args_u);
-          left = λ x own f n b ok eq o.
-              outputs_obey p fine F W base base' R enter reached g gs xs x x.parameters x.parameters own f ok.parameters b (subst (λ ys. AllOf (argument_uses p ys ys xs)) (ap (called_parameters p) q ∙ sym eq) args_u) o;
+          given = λ x rest n b ok eq.
+              let m = arguments_serve p fine F W base base' R enter reached g gs k r ss x rest xs q eq b args_u in
+              arguments_obey p fine F W base base' R enter reached g gs xs x x.parameters x.parameters ok ok.parameters ok.parameters m.0 m.1;
+          left = λ x rest own f n b ok eq o.
+              let m = arguments_serve p fine F W base base' R enter reached g gs k r ss x rest xs q eq b args_u in
+              outputs_obey p fine F W base base' R enter reached g gs xs x x.parameters x.parameters own f ok.parameters m.0 m.1 o;
         })
         i))
         (λ _ _. give tt))
@@ -199,7 +206,7 @@ module _ (p : Program) (fine : ProgramIs p) (F W : ℕ → Type 0) (base base' :
     effect_obeys (Case line e cases otherwise) h u =
         let rest = back _ (expression_uses p e) _ u in
         at {m = do v ← value p enter e; first_holding p enter (number_in v) cases (otherwise_effect p enter otherwise)} line (bind (expr e h.0 (front _ (expression_uses p e) _ u)) (λ v _.
-        cases_obey (number_in v) cases (otherwise_effect p enter otherwise) h.1 (front _ (case_uses p cases) _ rest) (otherwise_obeys otherwise h.2 (back _ (case_uses p cases) _ rest))))
+        cases_obey (number_in v) cases (otherwise_effect p enter otherwise) h.2 (front _ (case_uses p cases) _ rest) (otherwise_obeys otherwise h.3 (back _ (case_uses p cases) _ rest))))
     effect_obeys (For line a name from to by body) h u =
         let w = front _ (changed (named_region a.target)) _ u in
         let u1 = back _ (changed (named_region a.target)) _ u in
@@ -210,10 +217,10 @@ module _ (p : Program) (fine : ProgramIs p) (F W : ℕ → Type 0) (base base' :
         let where_is : Runs (named_spot a.target) (Counted a.kind) = less (named_obeys p fine F W base base' R enter reached g gs a.target a.kind h.0 n) (λ spot s. (s.0, s.1 w)) in
         at {m = do first ← value p enter from; end ← value p enter to; step ← step_value p enter by; spot ← named_spot a.target; write spot (number (number_in first)); count (elem_of a.kind) (named_spot a.target) (number_in end) step (effects p enter body)} line (bind (expr from h.2 (front _ (expression_uses p from) _ u2)) (λ first k.
         bind (expr to h.4 (front _ (expression_uses p to) _ u3)) (λ end _.
-        bind (step_obeys by a.kind h.5 (front _ (step_uses p by) _ u4)) (λ step _.
+        bind (step_obeys by a.kind h.6 (front _ (step_uses p by) _ u4)) (λ step _.
         bind where_is (λ spot s.
         bind (put a.kind spot _ (elementary_plain a.kind h.1) s.0 s.1 (number_kind a.kind first h.1 (widened p F (kind from) a.kind first h.3 k))) (λ _ _.
-        count_obeys a.kind (number_in end) step (named_spot a.target) (effects p enter body) h.1 where_is (body_obeys body h.6 (back _ (step_uses p by) _ u4))))))))
+        count_obeys a.kind (number_in end) step (named_spot a.target) (effects p enter body) h.1 where_is (body_obeys body h.7 (back _ (step_uses p by) _ u4))))))))
     effect_obeys (While line e body) h u =
         at {m = loop (do v ← value p enter e; gives (is_true v)) (effects p enter body)} line (loop_obeys p fine F W base base' _ _ (condition e h.0.0 (front _ (expression_uses p e) _ u)) (body_obeys body h.1 (back _ (expression_uses p e) _ u)))
     effect_obeys (Repeat line body e) h u =
@@ -225,18 +232,18 @@ module _ (p : Program) (fine : ProgramIs p) (F W : ℕ → Type 0) (base base' :
         bind (effect_obeys s h.0 (front _ (statement_uses p s) _ u)) (λ flow _.
         unless_obeys p fine F W base base' flow (effects p enter ss) (body_obeys ss h.1 (back _ (statement_uses p s) _ u)))
 
-    branches_obey : (bs : Branches Note) (otherwise : Run Flow) → BranchesAre p g bs → AllOf (branch_uses p bs) → Runs otherwise Anything → Runs (first_true p enter bs otherwise) Anything
+    pub branches_obey : (bs : Branches Note) (otherwise : Run Flow) → BranchesAre p g bs → AllOf (branch_uses p bs) → Runs otherwise Anything → Runs (first_true p enter bs otherwise) Anything
     branches_obey no_branches otherwise h u k = k
     branches_obey (branch_then e body bs) otherwise h u k =
         let rest = back _ (expression_uses p e) _ u in
         bind (expr e h.0.0 (front _ (expression_uses p e) _ u)) (λ v _.
         test (is_true v) (body_obeys body h.1 (front _ (body_uses p body) _ rest)) (branches_obey bs otherwise h.2 (back _ (body_uses p body) _ rest) k))
 
-    cases_obey : (z : ℤ) (cs : Cases Note) (otherwise : Run Flow) → CasesAre p g cs → AllOf (case_uses p cs) → Runs otherwise Anything → Runs (first_holding p enter z cs otherwise) Anything
+    pub cases_obey : (z : ℤ) (cs : Cases Note) (otherwise : Run Flow) → CasesAre p g cs → AllOf (case_uses p cs) → Runs otherwise Anything → Runs (first_holding p enter z cs otherwise) Anything
     cases_obey z no_cases otherwise h u k = k
     cases_obey z (case_then labels body cs) otherwise h u k =
         test (hold labels z) (body_obeys body h.0 (front _ (body_uses p body) _ u)) (cases_obey z cs otherwise h.1 (back _ (body_uses p body) _ u) k)
 
-    otherwise_obeys : (o : Otherwise Note) → OtherwiseIs p g o → AllOf (otherwise_uses p o) → Runs (otherwise_effect p enter o) Anything
+    pub otherwise_obeys : (o : Otherwise Note) → OtherwiseIs p g o → AllOf (otherwise_uses p o) → Runs (otherwise_effect p enter o) Anything
     otherwise_obeys Nothing h u = give tt
     otherwise_obeys (Else body) h u = body_obeys body h u

@@ -15,7 +15,9 @@ use Rattle.st_meaning.specs.Enter.{enter, most_calls, program_body, run_programs
 use Rattle.st_meaning.specs.st_frame.Use.{routine_uses}
 use Rattle.st_meaning.specs.st_frame.Footprint.{Has}
 use Rattle.st_meaning.specs.st_frame.Good.{Names}
-use Rattle.st_meaning.specs.st_frame.Promise.{Scope, scope_of, RoutineIs, TaskRegionIs, ProgramIs}
+use Rattle.st_meaning.specs.st_frame.Promise.Names.{Scope}
+use Rattle.st_meaning.specs.st_frame.Promise.Declarations.{scope_of, RoutineIs}
+use Rattle.st_meaning.specs.st_frame.Promise.Programs.{TaskRegionIs, ProgramIs}
 use Rattle.st_meaning.proofs.st_frame.Unfolded.{opened, region_is}
 use Rattle.st_meaning.proofs.st_frame.OfTypes.{to_place}
 use Rattle.st_meaning.proofs.st_frame.Spots.{spot_shape, as_plain, by_name, member_meets, SlotsAre, OwnIs, FrameIs, FramesAre, GivenAre, initial_fit, given_fit}
@@ -28,18 +30,18 @@ module _ (p : Program) (fine : ProgramIs p) where
   pub program_is : (r : ℕ) (b : Routine) → TaskRegionIs p r → program_body p r ≡ Some b → (c : ℕ) × (body_of p c ≡ Some b) × Names p (record { region = r; steps = [] }) (type.Instance c)
   program_is r b h e =
       let a = then_some (slice_get p.regions r) _ b e in
-      let d : a.0 ≡ h.0 = one_some (slice_get p.regions r) a.0 h.0 a.1 h.3 in
-      let k : class_of_kind a.0.variable.kind ≡ h.1 = ap (λ x. class_of_kind x.variable.kind) d ∙ ap class_of_kind h.4 in
-      let s = region_is p fine.regions r h.0 h.3 in
-      let o = opened p (type.Instance h.1) (StType-F.Instance h.1) s.0 (type.outs-Instance h.1) (subst (λ t. Unfolds p t s.0) h.4 s.2) in (
-        h.1,
+      let d : a.0 ≡ h.region = one_some (slice_get p.regions r) a.0 h.region a.1 h.there in
+      let k : class_of_kind a.0.variable.kind ≡ h.class = ap (λ x. class_of_kind x.variable.kind) d ∙ ap class_of_kind h.kind in
+      let s = region_is p fine.regions r h.region h.there in
+      let o = opened p (type.Instance h.class) (StType-F.Instance h.class) s.0 (type.outs-Instance h.class) (subst (λ t. Unfolds p t s.0) h.kind s.2) in (
+        h.class,
         subst (λ c. body_of p c ≡ Some b) k a.2,
-        record { class = h.1; name = o.0.name; fields = o.1; there = ap (λ x. x >>? λ y. Some y) s.1 ∙ ap Some o.3; meets = fine.itself h.1 o.0 o.2 },
+        record { class = h.class; name = o.0.name; fields = o.1; there = ap (λ x. x >>? λ y. Some y) s.1 ∙ ap Some o.3; meets = fine.itself h.class o.0 o.2 },
       )
 
   module _ (F W : ℕ → Type 0) (base base' : Store) (R : Routine → Type 0) where
     -- inputs of a block are written to its instance
-    set_obeys : (gs : List Scope) (this : Option ℕ) (own : Option Path) (vs : List Variable) (xs : List Given) → OwnIs p fine F W this own → GivenAre p fine F W gs this vs xs → Obeys p fine F W base base' gs (set_variables own xs) Anything
+    pub set_obeys : (gs : List Scope) (this : Option ℕ) (own : Option Path) (vs : List Variable) (xs : List Given) → OwnIs p fine F W this own → GivenAre p fine F W gs this vs xs → Obeys p fine F W base base' gs (set_variables own xs) Anything
     set_obeys gs this own vs [] o h = gives_obeys p fine F W base base' tt
     set_obeys gs this own vs (for_local n s ∷ xs) o h = set_obeys gs this own vs xs o h.1
     set_obeys gs None own vs (for_variable k w ∷ xs) o h = absurd h.0
@@ -51,7 +53,7 @@ module _ (p : Program) (fine : ProgramIs p) where
         then_obeys p fine F W base base' (write_obeys p fine F W base base' (into (in_store q) (step.Field k)) a.0 w a.2 n.1 n.2 (to_place p F h.0.0.kind a.0 w h.0.2 a.1 h.0.3)) (λ _ _.
         set_obeys gs (Some c) own vs xs o h.1))
 
-    pops : (g : Scope) (gs : List Scope) (line : ℕ) (s s' : State) (fs fs' : List Frame) → fs ≡ fs' → FramesAre p fine F W (g ∷ gs) fs → Alike p fine F W base base' (g ∷ gs) s s'
+    pub pops : (g : Scope) (gs : List Scope) (line : ℕ) (s s' : State) (fs fs' : List Frame) → fs ≡ fs' → FramesAre p fine F W (g ∷ gs) fs → Alike p fine F W base base' (g ∷ gs) s s'
         → Both p fine F W base base' gs (λ f. SlotsAre p fine F W gs g.locals f.locals) (pop_from fs line s) (pop_from fs' line s')
     pops g gs line s s' [] fs' e h i = absurd h
     pops g gs line s s' (f ∷ fs) [] e h i = cc
@@ -61,7 +63,7 @@ module _ (p : Program) (fine : ProgramIs p) where
         (a, h.0.slots, with_frames p fine F W base base' (g ∷ gs) gs s s' fs fs' b h.1 i)
 
     module _ (closed : (r : Routine) → R r → RoutineIs p r × All (Covered p F W R) (routine_uses p r)) where
-      enters : (room : ℕ) → CallsObey p fine F W base base' R (enter p room) → (gs : List Scope) (r : Routine) (q : Option Path) (xs : List Given) → R r → OwnIs p fine F W r.class q → GivenAre p fine F W gs r.class r.locals xs
+      pub enters : (room : ℕ) → CallsObey p fine F W base base' R (enter p room) → (gs : List Scope) (r : Routine) (q : Option Path) (xs : List Given) → R r → OwnIs p fine F W r.class q → GivenAre p fine F W gs r.class r.locals xs
           → Obeys p fine F W base base' gs (enter p (suc room) r q xs) (λ f. SlotsAre p fine F W gs r.locals f.locals)
       enters room inner gs r q xs k n given =
           let c = closed r k in

@@ -14,7 +14,7 @@ use Rattle.st_tree.specs.Address.{width_of, bit_of}
 use Rattle.st_values.specs.Program.{Routine, Program}
 use Rattle.st_rules.specs.Chains.{is_among}
 use Rattle.st_values.specs.Value.{Path, Value, number, Store, member, with_member, names_of, value_at, value_with, at, put, ◌>>=◌ as ◌>>?◌}
-use Rattle.st_values.specs.Shape.{Elementary, region_shape}
+use Rattle.st_values.specs.Shape.{Elementary, region_shape, path_shape}
 use Rattle.st_meaning.specs.State.{in_store, State, Outcome, Done, Fault, go_on, there, set_region, write}
 use Rattle.st_meaning.specs.Enter.{run_task, programs_of}
 use Rattle.st_meaning.specs.ProcessImage.{Located, located_of, is_in, is_bit, input_byte, first_byte, input_number, size_of, input_value, or_same, latch, is_shown, share, number_or_zero, output_byte, covered, collect}
@@ -22,11 +22,13 @@ use Rattle.st_meaning.specs.Cycle.{all_ticks, begun, ended, cycle}
 use Rattle.st_meaning.specs.st_frame.Use.{Use, names, follows, calls, changes, the_region, the_instances, routine_uses}
 use Rattle.st_meaning.specs.st_frame.Footprint as footprint
 use Rattle.st_meaning.specs.st_frame.Footprint.{Has, Enters, Reached, begins, called, Footprint, Writes, IsFootprint}
-use Rattle.st_meaning.specs.st_frame.Good.{GoodAt, Good, GoodOn, AgreeOn}
-use Rattle.st_meaning.specs.st_frame.Promise.{RoutineIs, ProgramIs}
+use Rattle.st_meaning.specs.st_frame.Good.{Fit, GoodAt, Good, GoodOn, AgreeOn}
+use Rattle.st_meaning.specs.st_frame.Promise.Declarations.{RoutineIs}
+use Rattle.st_meaning.specs.st_frame.Promise.Programs.{ProgramIs}
 use Rattle.st_meaning.specs.st_frame.FrameLaws.{last_moment, FrameLaws}
 use Rattle.st_meaning.proofs.st_frame.Footprints.{has_any, any_has, writes_read}
 use Rattle.st_meaning.proofs.st_frame.OfTypes.{wraps_fit, bit_fits}
+use Rattle.st_meaning.proofs.st_frame.Values.{put_on}
 use Rattle.st_meaning.proofs.st_frame.Obeys.{Anything, Alike, Both, Obeys, write_obeys}
 use Rattle.st_meaning.proofs.st_frame.Bodies.{All, Covered, entered_is}
 use Rattle.st_meaning.proofs.st_frame.Entered.{program_is, programs_obey}
@@ -137,6 +139,26 @@ module _ (p : Program) (task : ℕ) (fine : ProgramIs p) where
       collect_same : (s t : Store) → AgreeOn (Footprint p task) s t → collect (located_of p) fs s ≡ collect (located_of p) fs t
       collect_same s t h = mapped_same (located_of p) s t (range_with_len 0 (covered (located_of p) fs)) h
 
+-- ---- inputs
+
+module _ (p : Program) (fine : ProgramIs p) (F : ℕ → Type 0) where
+  put_same : (s : Store) (x : Located) (v : Value) (o : Option Store) → GoodOn p F s → path_shape p x.path ≡ Some (Elementary x.elem) → Fit p (Elementary x.elem) v → put s x.path v ≡ o → GoodOn p F (or_same s o)
+  put_same s x v None g e k f = g
+  put_same s x v (Some t) g e k f = put_on p F s t x.path (Elementary x.elem) v g e k f
+
+  pub latch_good : (xs : List Located) (fs input : List ℕ) (s : Store) → ((x : Located) → Has xs x → Has (located_of p) x) → GoodOn p F s → GoodOn p F (latch xs fs input s)
+  latch_good [] fs input s h g = g
+  latch_good (x ∷ xs) fs input s h g = by (λ t i. latch_good xs fs input t (λ y k. h y (inr k)) i) (is_in area.Input x && is_among x.path.region fs)
+    where
+      v : Value
+      v = number (input_value input x)
+
+      by : ((t : Store) → GoodOn p F t → GoodOn p F (latch xs fs input t)) → (b : Bool) → GoodOn p F (latch xs fs input (if b then or_same s (put s x.path v) else s))
+      by rest true = rest (or_same s (put s x.path v)) (put_same s x v (put s x.path v) g (fine.located x (h x (inl refl))) (input_fits input x) refl)
+      by rest false = rest s g
+
+-- ---- cycles
+
 abbrev Cycled : Program → ℕ → Store → Store → CycleReply × Store → CycleReply × Store → Type 0
 Cycled p task s t a b =
     (a.0 ≡ b.0) × AgreeOn (Footprint p task) a.1 b.1
@@ -169,6 +191,7 @@ whole_good p fs task now input s fine is n g =
 
 pub frame_laws : FrameLaws
 frame_laws = record {
+  latched = λ p fs task input s fine g. latch_good p fine (Footprint p task) (located_of p) fs input s (λ x h. h) g;
   local = λ p fs task now input s t fine is n g k. let h = cycled p fs task now input s t fine is n g k in (h.0, h.1);
   elsewhere = λ p fs task now input s fine is n g. let h = cycled p fs task now input s s fine is n g (λ r f. refl) in (h.2, h.3);
   keeps = λ p fs task now input s fine is n g. let h = cycled p fs task now input s s fine is n g (λ r f. refl) in h.4;

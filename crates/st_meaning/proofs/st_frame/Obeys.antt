@@ -14,7 +14,8 @@ use Rattle.st_values.proofs.ValueLaws.{then_some, one_some, member_put, member_s
 use Rattle.st_meaning.specs.State.{Spot, in_store, in_frame, Frame, State, Outcome, Done, Fault, Run, go_on, ◌>>=◌, gives, fails, at_line, some_or, spend_from, spend, moment, region_value, set_region, frame_at, frame_value, local_value, with_local, set_local, own_in, own, local_spot_in, local_spot, read, write}
 use Rattle.st_meaning.specs.Loop.{Flow, goes_on, exits, continues, returns, unless_left, after_turn, turns, loop, turns_until, loop_until}
 use Rattle.st_meaning.specs.st_frame.Good.{Names, Fit, GoodAt}
-use Rattle.st_meaning.specs.st_frame.Promise.{Scope, ProgramIs}
+use Rattle.st_meaning.specs.st_frame.Promise.Names.{Scope}
+use Rattle.st_meaning.specs.st_frame.Promise.Programs.{ProgramIs}
 use Rattle.st_meaning.proofs.st_frame.Values.{fit_at, fit_with}
 use Rattle.st_meaning.proofs.st_frame.Spots.{scope_at, local_shape, spot_shape, Within, SpotIs, OwnIs, FramesAre, local_fits, local_replaced, place_of_local}
 

@@ -20,7 +20,7 @@ use Rattle.st_values.specs.ShapeLaws.{Unfolds}
 use Rattle.st_values.proofs.ShapeLaws.{shape_laws}
 use Rattle.st_meaning.specs.st_frame.Good.{Names, Held, Fit}
 use Rattle.st_meaning.specs.Operation.{truth, elem_of, path_in, class_in}
-use Rattle.st_meaning.specs.st_frame.Promise.{NumberIs, IsElementary, IsHeld, IsPath, IsNoInstance, IsBool, Narrower, Widens, same_type, wider_number, wider_path}
+use Rattle.st_meaning.specs.st_frame.Promise.Types.{NumberIs, IsElementary, IsHeld, IsPath, IsNoInstance, IsBool, Narrower, Widens, same_type, wider_number, wider_path}
 use Rattle.st_meaning.proofs.st_frame.Unfolded.{opened, within_bound}
 
 -- ---- numbers

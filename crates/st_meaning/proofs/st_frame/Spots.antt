@@ -18,7 +18,11 @@ use Rattle.st_values.proofs.ValueLaws.{then_some, one_some}
 use Rattle.st_meaning.specs.State.{Spot, in_store, in_frame, Slot, holds, bound, unbound, Frame, frame_at, frames_with, held_by, frame_value, with_local, spot_in, local_spot_in, into}
 use Rattle.st_meaning.specs.Call.{Given, for_local, for_variable, is_in_out, initial_slots, with_given}
 use Rattle.st_meaning.specs.st_frame.Good.{Names, Fit}
-use Rattle.st_meaning.specs.st_frame.Promise.{Each, IsNoInstance, Serves, same_place, wider_class, Scope, FieldIs, LocalIs, ProgramIs}
+use Rattle.st_meaning.specs.st_frame.Promise.Types.{IsNoInstance, Serves, same_place, wider_class}
+use Rattle.st_meaning.specs.st_frame.Promise.Names.{Scope}
+use Rattle.st_meaning.specs.st_frame.Promise.Places.{FieldIs}
+use Rattle.st_meaning.specs.st_frame.Promise.Declarations.{Each, LocalIs}
+use Rattle.st_meaning.specs.st_frame.Promise.Programs.{ProgramIs}
 use Rattle.st_meaning.proofs.st_frame.Values.{shape_further, path_further, value_fits}
 use Rattle.st_meaning.proofs.st_frame.OfTypes.{OfKind}
 use Rattle.st_meaning.proofs.st_frame.Unfolded.{opened, within_bound, at_unfolds, field_is, path_unfolds, instance_opened, OfClass}
@@ -135,7 +139,7 @@ module _ (p : Program) (fine : ProgramIs p) where
   scope_push g gs d h e = ap (λ b. if b then Some g else scope_at gs d) (not_same d (length gs) (scope_below gs d h e)) ∙ e
 
   -- a longer row of calls knows the same of a place
-  spot_push : (g : Scope) (gs : List Scope) (spot : Spot) (sh : Shape) → spot_shape p gs spot ≡ Some sh → spot_shape p (g ∷ gs) spot ≡ Some sh
+  pub spot_push : (g : Scope) (gs : List Scope) (spot : Spot) (sh : Shape) → spot_shape p gs spot ≡ Some sh → spot_shape p (g ∷ gs) spot ≡ Some sh
   spot_push g gs (in_store q) sh e = e
   spot_push g gs (in_frame d n ss) sh e =
       let a = then_some (local_shape p (scope_at gs d) n) _ sh e in
@@ -146,7 +150,7 @@ module _ (p : Program) (fine : ProgramIs p) where
       of None q u f = cc
       of (Some h) q u f = (h, q)
 
-  meets_push : (g : Scope) (gs : List Scope) (spot : Spot) (t : StType) → Meets p (spot_shape p gs spot) t → Meets p (spot_shape p (g ∷ gs) spot) t
+  pub meets_push : (g : Scope) (gs : List Scope) (spot : Spot) (t : StType) → Meets p (spot_shape p gs spot) t → Meets p (spot_shape p (g ∷ gs) spot) t
   meets_push g gs spot t (exactly sh u e) = exactly sh u (spot_push g gs spot sh e)
   meets_push g gs spot t (below c d name fs q e m) = below c d name fs q (spot_push g gs spot (Instance d name fs) e) m
 
@@ -157,7 +161,7 @@ module _ (p : Program) (fine : ProgramIs p) where
       let a = then_some (local_shape p (scope_at gs d) n) _ sh e in
       ap (λ o. o >>= λ x. shape_at x (ss ++ s ∷ [])) a.1 ∙ shape_further p ss a.0 sh s part a.2 f
 
-  variable_is : (o : Option Variable) (sh : Shape) → variable_shape p o ≡ Some sh → (v : Variable) × (o ≡ Some v) × (shape_of p v.kind ≡ Some sh)
+  pub variable_is : (o : Option Variable) (sh : Shape) → variable_shape p o ≡ Some sh → (v : Variable) × (o ≡ Some v) × (shape_of p v.kind ≡ Some sh)
   variable_is None sh e = cc
   variable_is (Some v) sh e = (v, refl, by (is_in_out v.sort) e)
     where
@@ -165,12 +169,12 @@ module _ (p : Program) (fine : ProgramIs p) where
       by true q = cc
       by false q = q
 
-  scope_is : (o : Option Scope) (n : ℕ) (sh : Shape) → local_shape p o n ≡ Some sh → (g : Scope) × (o ≡ Some g) × (variable_shape p (slice_get g.locals n) ≡ Some sh)
+  pub scope_is : (o : Option Scope) (n : ℕ) (sh : Shape) → local_shape p o n ≡ Some sh → (g : Scope) × (o ≡ Some g) × (variable_shape p (slice_get g.locals n) ≡ Some sh)
   scope_is None n sh e = cc
   scope_is (Some g) n sh e = (g, refl, e)
 
   -- what is at a place is what some type unfolds to
-  spot_unfolds : (gs : List Scope) (spot : Spot) (sh : Shape) → spot_shape p gs spot ≡ Some sh → (t : StType) × Unfolds p t sh
+  pub spot_unfolds : (gs : List Scope) (spot : Spot) (sh : Shape) → spot_shape p gs spot ≡ Some sh → (t : StType) × Unfolds p t sh
   spot_unfolds gs (in_store q) sh e = path_unfolds p fine.regions q sh e
   spot_unfolds gs (in_frame d n ss) sh e =
       let a = then_some (local_shape p (scope_at gs d) n) _ sh e in
@@ -270,7 +274,7 @@ module _ (p : Program) (fine : ProgramIs p) where
     slot_replaced gs (x ∷ vs) (r ∷ ss) (suc n) v s h e k = (h.0, slot_replaced gs vs ss n v s h.1 e k)
 
     -- a local of this shape
-    kept_is : (o : Option Variable) (sh : Shape) → variable_shape p o ≡ Some sh → (v : Variable) × (o ≡ Some v) × (is_in_out v.sort ≡ false) × (shape_of p v.kind ≡ Some sh)
+    pub kept_is : (o : Option Variable) (sh : Shape) → variable_shape p o ≡ Some sh → (v : Variable) × (o ≡ Some v) × (is_in_out v.sort ≡ false) × (shape_of p v.kind ≡ Some sh)
     kept_is None sh e = cc
     kept_is (Some v) sh e = by (is_in_out v.sort) refl e
       where
@@ -278,7 +282,7 @@ module _ (p : Program) (fine : ProgramIs p) where
         by true q e = cc
         by false q e = (v, refl, q, e)
 
-    kept_fits : (gs : List Scope) (vs : List Variable) (ss : List Slot) (n : ℕ) (sh : Shape) (w : Value) → SlotsAre gs vs ss → variable_shape p (slice_get vs n) ≡ Some sh → held_by (slice_get ss n) ≡ Some w → Fit p sh w
+    pub kept_fits : (gs : List Scope) (vs : List Variable) (ss : List Slot) (n : ℕ) (sh : Shape) (w : Value) → SlotsAre gs vs ss → variable_shape p (slice_get vs n) ≡ Some sh → held_by (slice_get ss n) ≡ Some w → Fit p sh w
     kept_fits gs vs ss n sh w h e f =
         let v = kept_is (slice_get vs n) sh e in
         let a = slot_fits gs vs ss n v.0 w h v.1 f in

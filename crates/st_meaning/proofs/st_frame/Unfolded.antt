@@ -11,7 +11,7 @@ use Rattle.st_values.specs.Shape.{Shape, Elementary, Enumeration, Reference, Int
 use Rattle.st_values.specs.ShapeLaws.{Unfolds, EachUnfolds}
 use Rattle.st_values.proofs.ValueLaws.{then_some}
 use Rattle.st_values.proofs.ShapeLaws.{one_deeper, mapped_some}
-use Rattle.st_meaning.specs.st_frame.Promise.{Each, VariableFits}
+use Rattle.st_meaning.specs.st_frame.Promise.Declarations.{Each, VariableFits}
 use Rattle.st_meaning.proofs.st_frame.Values.{element_of}
 
 module _ (p : Program) where

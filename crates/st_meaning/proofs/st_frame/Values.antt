@@ -13,8 +13,9 @@ use Rattle.st_values.specs.Shape.{Shape, Elementary, Enumeration, Reference, Int
 use Rattle.st_values.specs.Value.{Path, Value, number, reference, array, structure, instance, Values, no_values, value_then, Members, no_members, member_then, Store, names_of, ◌>>=◌, element, with_element, with_element_at, member, with_member, place_of_index, part, with_part, value_at, value_with, put}
 use Rattle.st_values.specs.Initial.{list_given, fields_given, given_for, elements, init, inits, init_of, initial_value, initial_regions, initial_store}
 use Rattle.st_values.proofs.ValueLaws.{then_some, one_some, made, Put, put_in, names_stay, member_put, member_stays}
-use Rattle.st_meaning.specs.st_frame.Good.{Fit, FitAll, FitEach, GoodAt, region_names, Good}
-use Rattle.st_meaning.specs.st_frame.Promise.{Each, StartsRight, StartRight, VariableFits, ProgramIs}
+use Rattle.st_meaning.specs.st_frame.Good.{Fit, FitAll, FitEach, GoodAt, region_names, Good, GoodOn}
+use Rattle.st_meaning.specs.st_frame.Promise.Declarations.{Each, StartsRight, StartRight, VariableFits}
+use Rattle.st_meaning.specs.st_frame.Promise.Programs.{ProgramIs}
 use Rattle.st_meaning.specs.st_frame.GoodLaws.{GoodLaws}
 
 pub if_some : {A : Type 0} (b : Bool) (t u : A) → (if b then Some t else None) ≡ Some u → (b ≡ true) × (t ≡ u)
@@ -162,31 +163,37 @@ module _ (p : Program) where
 
   -- ---- stores
 
-  pub good_put : (s t : Store) (q : Path) (sh : Shape) (new : Value) → Good p s → path_shape p q ≡ Some sh → Fit p sh new → put s q new ≡ Some t → Good p t
-  good_put s t q sh new g e k f =
+  -- what fits is put into a store that is good on some regions
+  pub put_on : (F : ℕ → Type 0) (s t : Store) (q : Path) (sh : Shape) (new : Value) → GoodOn p F s → path_shape p q ≡ Some sh → Fit p sh new → put s q new ≡ Some t → GoodOn p F t
+  put_on F s t q sh new g e k f r h =
       let m = put_in s t q new f in
       let a = then_some (region_shape p q.region) _ sh e in
-      record {
-        regions = subst (λ u. names_of u ≡ region_names p.regions) m.is (names_stay s q.region m.becomes ∙ g.regions);
-        each = λ r. subst (λ u. GoodAt p (region_shape p r) (member u r)) m.is (by r (nat_eq q.region r) refl a m);
-      }
+      subst (λ u. GoodAt p (region_shape p r) (member u r)) m.is (by r (nat_eq q.region r) refl a m h)
     where
-      by : (r : ℕ) (b : Bool) → nat_eq q.region r ≡ b → (x : Shape) × (region_shape p q.region ≡ Some x) × (shape_at x q.steps ≡ Some sh) → (m : Put s t q new) → GoodAt p (region_shape p r) (member (with_member s q.region m.becomes) r)
-      by r true w a m =
+      by : (r : ℕ) (b : Bool) → nat_eq q.region r ≡ b → (x : Shape) × (region_shape p q.region ≡ Some x) × (shape_at x q.steps ≡ Some sh) → (m : Put s t q new) → F r → GoodAt p (region_shape p r) (member (with_member s q.region m.becomes) r)
+      by r true w a m h =
           let d = eqb-true q.region r w in
           subst (λ i. GoodAt p (region_shape p i) (member (with_member s q.region m.becomes) i)) d
           (record {
             by = λ x i.
                 let y : a.0 ≡ x = one_some (region_shape p q.region) a.0 x a.1 i in
-                let old = (g.each q.region).by a.0 a.1 in
+                let old = (g q.region (subst F (sym d) h)).by a.0 a.1 in
                 let z : old.0 ≡ m.was = one_some (member s q.region) old.0 m.was old.1 m.there in (
                   m.becomes,
                   member_put s q.region m.was m.becomes m.there,
                   subst (λ u. Fit p u m.becomes) y (fit_with q.steps a.0 m.was sh new m.becomes (subst (Fit p a.0) z old.2) a.2 k m.below),
                 );
           })
-      by r false w a m =
-          subst (GoodAt p (region_shape p r)) (sym (member_stays s q.region r m.becomes (differ q.region r w))) (g.each r)
+      by r false w a m h =
+          subst (GoodAt p (region_shape p r)) (sym (member_stays s q.region r m.becomes (differ q.region r w))) (g r h)
+
+  pub good_put : (s t : Store) (q : Path) (sh : Shape) (new : Value) → Good p s → path_shape p q ≡ Some sh → Fit p sh new → put s q new ≡ Some t → Good p t
+  good_put s t q sh new g e k f =
+      let m = put_in s t q new f in
+      record {
+        regions = subst (λ u. names_of u ≡ region_names p.regions) m.is (names_stay s q.region m.becomes ∙ g.regions);
+        each = λ r. put_on (λ i. Unit {0}) s t q sh new (λ i h. g.each i) e k f r tt;
+      }
 
   -- ---- initial values
 

@@ -11,7 +11,9 @@ use Rattle.st_meaning.specs.Operation.{truth}
 use Rattle.st_meaning.specs.Call.{Given, for_local, for_variable}
 use Rattle.st_meaning.specs.Enter.{enter}
 use Rattle.st_meaning.specs.st_frame.Good.{Names, Good}
-use Rattle.st_meaning.specs.st_frame.Promise.{Each, IsNoInstance, RoutineIs, ProgramIs}
+use Rattle.st_meaning.specs.st_frame.Promise.Types.{IsNoInstance}
+use Rattle.st_meaning.specs.st_frame.Promise.Declarations.{Each, RoutineIs}
+use Rattle.st_meaning.specs.st_frame.Promise.Programs.{ProgramIs}
 use Rattle.st_meaning.specs.st_frame.Use.{Use, names, follows, calls, changes, the_region, the_instances, routine_uses}
 use Rattle.st_meaning.specs.st_frame.Footprint.{Has}
 use Rattle.st_meaning.specs.st_frame.FrameLaws.{last_moment, FlagFits}

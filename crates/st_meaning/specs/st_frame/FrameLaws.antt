@@ -8,8 +8,11 @@ use Rattle.st_meaning.specs.Operation.{truth}
 use Rattle.st_meaning.specs.Call.{Given, for_local, is_in_out}
 use Rattle.st_meaning.specs.Enter.{enter}
 use Rattle.st_meaning.specs.Cycle.{cycle}
+use Rattle.st_meaning.specs.ProcessImage.{located_of, latch}
 use Rattle.st_meaning.specs.st_frame.Good.{Names, Good, GoodOn, AgreeOn}
-use Rattle.st_meaning.specs.st_frame.Promise.{Each, IsBool, RoutineIs, ProgramIs}
+use Rattle.st_meaning.specs.st_frame.Promise.Types.{IsBool}
+use Rattle.st_meaning.specs.st_frame.Promise.Declarations.{Each, RoutineIs}
+use Rattle.st_meaning.specs.st_frame.Promise.Programs.{ProgramIs}
 use Rattle.st_meaning.specs.st_frame.Footprint.{Footprint, Writes, IsFootprint}
 
 -- the moments of cycles are 32 bits
@@ -23,6 +26,8 @@ FlagFits r _ = ⊥
 
 -- of a program that was accepted
 pub record FrameLaws : Type 0 where
+  -- inputs keep what is good on the footprint good on it
+  pub latched : (p : Program) (fs : List ℕ) (task : ℕ) (input : List ℕ) (s : Store) → ProgramIs p → GoodOn p (Footprint p task) s → GoodOn p (Footprint p task) (latch (located_of p) fs input s)
   -- where two stores agree on the footprint, the replies are equal, and what is left agrees on it
   pub local : (p : Program) (fs : List ℕ) (task now : ℕ) (input : List ℕ) (s t : Store) → ProgramIs p → IsFootprint p task fs → now ≤ last_moment
       → GoodOn p (Footprint p task) s → AgreeOn (Footprint p task) s t

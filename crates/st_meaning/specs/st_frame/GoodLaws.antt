@@ -7,7 +7,7 @@ use Rattle.st_values.specs.Shape.{Shape, shape_at, path_shape}
 use Rattle.st_values.specs.Value as value
 use Rattle.st_values.specs.Initial.{initial_store}
 use Rattle.st_meaning.specs.st_frame.Good.{Fit, Good}
-use Rattle.st_meaning.specs.st_frame.Promise.{ProgramIs}
+use Rattle.st_meaning.specs.st_frame.Promise.Programs.{ProgramIs}
 
 pub record GoodLaws : Type 0 where
   -- what is read in a value that fits fits, and so does a value in which something that fits is put

@@ -8,7 +8,8 @@ use Rattle.st_tree.specs.declared.program.Note.{Note}
 use Rattle.st_tree.specs.declared.program.Target.TheVariants as target
 use Rattle.st_tree.specs.Expression.{Int, Negate}
 use Rattle.st_values.specs.Program.{Program}
-use Rattle.st_meaning.specs.st_frame.Promise.{Scope, ExpressionIs}
+use Rattle.st_meaning.specs.st_frame.Promise.Names.{Scope}
+use Rattle.st_meaning.specs.st_frame.Promise.Expressions.{ExpressionIs}
 
 abbrev sint : Note
 sint = record { line = 1; kind = type.Elementary elem.Sint; target = target.Nothing }

@@ -3,7 +3,7 @@
 --   CLASS A VAR n : INT; END_VAR METHOD m : INT VAR_INPUT x : INT; END_VAR n := n + x; m := n; END_METHOD END_CLASS
 --   CLASS B EXTENDS A METHOD OVERRIDE m : INT VAR_INPUT x : INT; END_VAR m := SUPER.m(x := x); END_METHOD END_CLASS
 --   PROGRAM P VAR b1 : B; r : REF_TO A; y AT %QW0 : INT; END_VAR r := REF(b1); y := r^.m(x := 1); END_PROGRAM
-use Rattle.std.proofs.Common.{◌≡◌, ◌⊎◌, ℕ, zero, suc, pos, Bool, true, false, List, [], ◌∷◌, Some, None, refl, sym, ap, ◌∙◌, subst, arith, inl, inr}
+use Rattle.std.proofs.Common.{◌≡◌, ◌⊎◌, ◌<◌, ℕ, zero, suc, pos, Bool, true, false, List, [], ◌∷◌, length, Some, None, refl, sym, ap, ◌∙◌, subst, arith, inl, inr}
 use Rattle.std.specs.Prelude.{codes, if◌then◌else◌, ◌||◌, nat_eq, slice_get, IsTrue}
 use Rattle.std.proofs.lemmas.Bool.{eqb-true}
 use Rattle.plc_text.specs.Words.{same}
@@ -17,14 +17,18 @@ use Rattle.st_tree.specs.declared.program.Note.{Note}
 use Rattle.st_tree.specs.declared.program.Target.TheVariants as target
 use Rattle.st_tree.specs.Expression.{Expression, arguments}
 use Rattle.st_rules.specs.Chains.{is_among, ◌or_else◌}
-use Rattle.st_values.specs.Program.{Variable, Routine, Class, Program, class_at, class_number, class_variables, conforms, lookup, body_of}
+use Rattle.st_values.specs.Program.{Variable, Parameter, Routine, Class, Program, class_at, class_number, chain_of, class_variables, conforms, lookup, body_of}
 use Rattle.st_types.specs.Range.{Fits}
 use Rattle.st_values.specs.Shape.{Elementary, Reference, Instance, no_fields, field_then, shape_of, path_shape}
 use Rattle.st_meaning.specs.st_frame.Footprint.{Has, Enters, by_number, by_class, by_text, by_body, by_base}
 use Rattle.st_meaning.specs.ProcessImage.{Located, located_of}
 use Rattle.st_meaning.specs.Enter.{programs_of}
 use Rattle.st_meaning.specs.st_frame.Use.{Called, a_method_of, a_method_from}
-use Rattle.st_meaning.specs.st_frame.Promise.{same_type, wider_path, Each, VariableFits, LocalIs, Above, RoutineIs, ProgramIs, TaskRegionIs, ResultIs, ArgumentsAre, scope_of}
+use Rattle.st_meaning.specs.st_frame.Promise.Types.{same_type, wider_path}
+use Rattle.st_meaning.specs.st_frame.Promise.Calls.{HasInstance, Answers, ResultIs}
+use Rattle.st_meaning.specs.st_frame.Promise.Expressions.{ArgumentsAre}
+use Rattle.st_meaning.specs.st_frame.Promise.Declarations.{Each, VariableFits, LocalIs, AreApart, RoutineIs, scope_of}
+use Rattle.st_meaning.specs.st_frame.Promise.Programs.{Above, EndsWith, ProgramIs, TaskRegionIs}
 use Rattle.st_meaning.proofs.st_frame.OfTypes.{bit_fits}
 use Rattle.st_meaning.proofs.Builder.{int, lit, var, op, ref, dot, caret, arg, send, send_super, set, variable, own, located, method, no_body, class, program_class, global, instance_of, task}
 
@@ -137,6 +141,19 @@ variables_above c d k v h e =
       | inr q ↦ subst (λ z. slice_get (class_variables sample z) k ≡ Some v) (sym q.0) (ap (λ vs. slice_get vs k) (sym same_variables) ∙ subst (λ z. slice_get (class_variables sample z) k ≡ Some v) q.1 e)
     ]
 
+bases : (c d : ℕ) → is_among d (chain_of (class_at sample c)) ≡ true → d < length sample.classes
+bases zero d h = let e = only_one 0 d h in omega (arith, e)
+bases (suc zero) d h = elim (one_of_two 1 0 d h) [ inl e ↦ omega (arith, e) | inr e ↦ omega (arith, e) ]
+bases (suc (suc zero)) d h = let e = only_one 2 d h in omega (arith, e)
+bases (suc (suc (suc c))) d h = cc
+
+chains : (c d : ℕ) → IsTrue (conforms sample c (type.Instance d)) → EndsWith sample c d
+chains c d h =
+    elim (above c d h) [
+      | inl q ↦ subst (λ z. EndsWith sample c z) q ([], refl)
+      | inr q ↦ subst (λ z. EndsWith sample z d) (sym q.0) (subst (λ z. EndsWith sample 1 z) (sym q.1) (1 ∷ [], refl))
+    ]
+
 -- ---- methods
 
 found_first : (b : Bool) (m : Routine) → ((if b then Some first else None) or_else None) ≡ Some m → first ≡ m
@@ -201,11 +218,23 @@ input_is = λ e. (Elementary elem.Int, refl, bit_fits elem.Int 0 (omega arith), 
 abbrev result : Variable
 result = variable sort.Var (codes "M") int None
 
+none_apart : AreApart []
+none_apart = record { by = λ i j q m e f h. cc }
+
+one_apart : (o : Parameter) → AreApart (o ∷ [])
+one_apart o = record { by = by }
+  where
+    by : (i j : ℕ) (q m : Parameter) → slice_get (o ∷ []) i ≡ Some q → slice_get (o ∷ []) j ≡ Some m → q.to ≡ m.to → i ≡ j
+    by zero zero q m e f h = refl
+    by zero (suc j) q m e f h = cc
+    by (suc i) j q m e f h = cc
+
 first_is : RoutineIs sample first
 unfolding class_variables
 first_is = record {
   locals = (local_is, (input_is, tt));
   parameters = ((x, refl, refl, λ e. tt, λ e. tt), tt);
+  apart = one_apart _;
   body = (
     (((n, refl, refl), tt, refl), tt, (((n, refl, refl), tt, refl), (((x, refl, refl), tt, refl), (elem.Int, elem.Int, elem.Int, refl, refl, refl, itself, itself), refl)), same_type),
     ((((result, refl, refl), tt, refl), tt, ((n, refl, refl), tt, refl), same_type), tt),
@@ -213,22 +242,37 @@ first_is = record {
 }
 
 -- what is asked of a routine that a call with x enters
-abbrev Fine : Routine → Expression Note → Routine → Type 0
-Fine from e m = (m.parameters ≡ first.parameters) × (ResultIs m int × ArgumentsAre sample (scope_of from) m m.parameters m.parameters (arguments (arg 0 e ∷ [])))
+abbrev Fine : Routine → Expression Note → Called → Routine → Type 0
+Fine from e k m = Answers sample k (λ y. ResultIs y int × ArgumentsAre sample (scope_of from) y first.parameters first.parameters (arguments (arg 0 e ∷ []))) m
 
-first_fine : Fine second (var int (target.Local 1)) first
-first_fine = (refl, ((result, refl, refl), (((x, refl, refl), tt, refl), (x, refl, λ h. cc, λ h. same_type), tt)))
+first_fine : Fine second (var int (target.Local 1)) (a_method_from 0 (codes "M")) first
+unfolding lookup
+first_fine = record {
+  rest = [];
+  begins = refl;
+  few = omega arith;
+  suits = ((result, refl, refl, refl), (((x, refl, refl), tt, refl), (x, refl, λ h. cc, λ h. same_type), tt));
+}
 
 second_is : RoutineIs sample second
 unfolding conforms lookup
 second_is = record {
   locals = (local_is, (input_is, tt));
   parameters = ((x, refl, refl, λ e. tt, λ e. tt), tt);
+  apart = one_apart _;
   body = (
     (
       ((result, refl, refl), tt, refl),
       tt,
-      (tt, (((1, 0, refl, refl, refl), tt), tt, record { by = λ m e. subst (Fine second (var int (target.Local 1))) (entered m (by_super (a_method_from 0 (codes "M")) 0 (codes "M") m e refl)) first_fine })),
+      (
+        tt,
+        (
+          ((1, 0, refl, refl, refl), tt),
+          tt,
+          record { by = λ m e l. subst (Fine second (var int (target.Local 1)) (a_method_from 0 (codes "M"))) (entered m (by_super (a_method_from 0 (codes "M")) 0 (codes "M") m e refl)) first_fine; found = (first, refl) },
+          ((((x, refl, refl), tt, refl), (refl, λ h. tt), tt), (refl, tt)),
+        ),
+      ),
       same_type,
     ),
     tt,
@@ -238,9 +282,17 @@ second_is = record {
     entered : (m : Routine) → lookup sample 0 (codes "M") ≡ Some m → first ≡ m
     entered m e = cc
 
-called : (m : Routine) (c : ℕ) → Found c m → Fine p_class.body (lit int (codes "1")) m
-called m c (inl h) = subst (Fine p_class.body (lit int (codes "1"))) h.1 (refl, ((result, refl, refl), ((elem.Int, refl, bit_fits elem.Int 1 (omega arith)), (x, refl, λ e. cc, λ e. same_type), tt)))
-called m c (inr h) = subst (Fine p_class.body (lit int (codes "1"))) h.1 (refl, ((result, refl, refl), ((elem.Int, refl, bit_fits elem.Int 1 (omega arith)), (x, refl, λ e. cc, λ e. same_type), tt)))
+one_fits : Fits elem.Int (pos 1)
+one_fits = bit_fits elem.Int 1 (omega arith)
+
+called : (m : Routine) (c : ℕ) → Found c m → Fine p_class.body (lit int (codes "1")) (a_method_of (type.Instance 0) (codes "M")) m
+unfolding lookup
+called m c (inl h) =
+    subst (Fine p_class.body (lit int (codes "1")) (a_method_of (type.Instance 0) (codes "M"))) h.1
+    (record { rest = []; begins = refl; few = omega arith; suits = ((result, refl, refl, refl), ((elem.Int, refl, one_fits), (x, refl, λ e. cc, λ e. same_type), tt)) })
+called m c (inr h) =
+    subst (Fine p_class.body (lit int (codes "1")) (a_method_of (type.Instance 0) (codes "M"))) h.1
+    (record { rest = []; begins = refl; few = omega arith; suits = ((result, refl, refl, refl), ((elem.Int, refl, one_fits), (x, refl, λ e. cc, λ e. same_type), tt)) })
 
 derived_conforms : (c : ℕ) → IsTrue (conforms sample c (type.Reference 1)) → IsTrue (conforms sample c (type.Reference 0))
 unfolding conforms
@@ -249,18 +301,37 @@ derived_conforms (suc zero) h = refl
 derived_conforms (suc (suc zero)) h = cc
 derived_conforms (suc (suc (suc c))) h = cc
 
+all_found : (c : ℕ) → HasInstance sample c → IsTrue (conforms sample c (type.Instance 0)) → (m : Routine) × (lookup sample c (codes "M") ≡ Some m)
+unfolding conforms lookup
+all_found zero i h = (first, refl)
+all_found (suc zero) i h = (second, refl)
+all_found (suc (suc zero)) i h = cc
+all_found (suc (suc (suc c))) i h = cc
+
 program_is : RoutineIs sample p_class.body
 unfolding class_variables lookup
 program_is = record {
   locals = tt;
   parameters = tt;
+  apart = none_apart;
   body = (
     (((r, refl, refl), tt, refl), tt, ((b1, refl, refl), tt, (1, refl, refl)), wider_path tt tt (record { by = derived_conforms })),
     (
       (
         ((y, refl, refl), tt, refl),
         tt,
-        (tt, (((r, refl, refl), (refl, tt)), tt, record { by = λ m e. let a = through (a_method_of (type.Instance 0) (codes "M")) (type.Instance 0) (codes "M") m e refl in called m a.0 (found a.0 (codes "M") m a.2) })),
+        (
+          tt,
+          (
+            ((r, refl, refl), (refl, tt)),
+            tt,
+            record {
+              by = λ m e l. let a = through (a_method_of (type.Instance 0) (codes "M")) (type.Instance 0) (codes "M") m e refl in called m a.0 (found a.0 (codes "M") m a.2);
+              found = ((first, refl), all_found);
+            },
+            (((elem.Int, refl, one_fits), (refl, λ e. cc), tt), (refl, tt)),
+          ),
+        ),
         same_type,
       ),
       tt,
@@ -274,7 +345,7 @@ methods_are c name m e = elim (found c name m e) [ inl h ↦ subst (RoutineIs sa
 -- ---- bodies
 
 empty_is : (name : List ℕ) (c : ℕ) → RoutineIs sample (no_body name c)
-empty_is name c = record { locals = tt; parameters = tt; body = tt }
+empty_is name c = record { locals = tt; parameters = tt; apart = none_apart; body = tt }
 
 bodies_own : (c : ℕ) (m : Routine) → body_of sample c ≡ Some m → m.class ≡ Some c
 bodies_own zero m e = let d : no_body (codes "A") 0 ≡ m = cc in subst (λ z. z.class ≡ Some 0) d refl
@@ -311,7 +382,7 @@ located_is z (inl e) = subst (λ w. path_shape sample w.path ≡ Some (Elementar
 located_is z (inr h) = absurd h
 
 tasks_are : (t q : ℕ) → Has (programs_of sample t) q → TaskRegionIs sample q
-tasks_are zero q (inl e) = subst (TaskRegionIs sample) (sym e) (instance_of (codes "P1") 2, 2, p_class.body, refl, refl, refl)
+tasks_are zero q (inl e) = subst (TaskRegionIs sample) (sym e) (record { region = instance_of (codes "P1") 2; class = 2; text = p_class; there = refl; marked = refl; kind = refl; class_there = refl; sort = refl })
 tasks_are zero q (inr h) = absurd h
 tasks_are (suc t) q h = absurd h
 
@@ -321,11 +392,14 @@ promised = record {
   itself = itself_conforms;
   upward = upward;
   variables_above = variables_above;
+  bases = bases;
+  chains = chains;
   methods_above = methods_above;
   methods = methods_are;
   bodies_own = bodies_own;
   bodies = bodies_are;
   functions = λ k m e. cc;
+  few = omega arith;
   regions = regions_fit;
   located = located_is;
   tasks = tasks_are;
