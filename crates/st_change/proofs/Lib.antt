@@ -5,5 +5,6 @@ pub mod Paths
 pub mod Carried
 pub mod Members
 pub mod Settled
+pub mod Hooks
 pub mod Stores
 pub mod Same
