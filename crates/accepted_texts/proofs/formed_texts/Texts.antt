@@ -14,7 +14,7 @@ use Rattle.accepted_texts.proofs.formed_texts.Units.{formed_unit}
 
 module _ (most : ℕ) where
   prelude_formed : (text : List ℕ) (unit : ProgramText) → length text ≤ most → IsPrelude text unit → IsFormed most unit.decls
-  prelude_formed text unit l h = formed_laws.changed most text h.tokens without_line unit (λ t. refl) h.tokens-are l h.derived
+  prelude_formed text unit l h = formed_laws.changed most text h.tokens without_line unit (λ t. (refl, refl)) h.tokens-are l h.derived
 
   whole_formed : (prelude text : List ℕ) (whole : ProgramText) → length prelude ≤ most → most_bytes ≤ most → IsUnit prelude text whole → IsFormed most whole.decls
   whole_formed prelude text whole l m u =

@@ -36,8 +36,8 @@ use Rattle.st_tree.specs.Statement.{statements_of}
 use Rattle.st_tree.specs.Grammar.{Lexeme, Phrase, ◌⋆◌, sign, spelled, at, name, optional, each, type_spec, initial, body}
 use Rattle.st_tree.specs.Initial.{initial_of}
 use Rattle.st_tree.specs.Declarations.{more_names, names, start_value, result, modifier_terminal, is_keep, is_access, modifier_in, section_terminal, address, item, section, vars, globals, field_group, type_body, type_decl, used, more_used, used_names, is_class_word, is_method_word, prototype, extended, interface, method, member, base, implemented, head, class_of, function, program, setting_value, setting, more_settings, task_settings, task, instance, tasks, resource, configuration, declaration}
-use Rattle.accepted_texts.specs.formed_units.Formed.{Every, NotEmpty, IfThere, FormedType, FormedInitial, FormedName, FormedStart, FormedResult, FormedNames, FormedItem, FormedSection, FormedVars, FormedGlobals, FormedGroup, FormedTypeBody, FormedEntry, FormedBody, FormedPrototype, FormedInterface, FormedMethod, FormedMember, FormedClass, FormedFunction, FormedProgram, FormedConfiguration, FormedDecl, IsFormed}
-use Rattle.accepted_texts.proofs.formed_units.Gives.{Fine, Gives, then, means, nothing_gives, sign_gives, spelled_gives, at_gives, marked_gives, word_gives, name_gives, optional_gives, each_gives}
+use Rattle.accepted_texts.specs.formed_units.Formed.{Every, IfThere, FormedType, FormedInitial, FormedName, FormedStart, FormedResult, FormedNames, FormedAddress, FormedItem, FormedSection, FormedVars, FormedGlobals, FormedGroup, FormedTypeBody, FormedEntry, FormedBody, FormedPrototype, FormedInterface, FormedMethod, FormedMember, FormedClass, FormedFunction, FormedProgram, FormedConfiguration, FormedDecl, IsFormed}
+use Rattle.accepted_texts.proofs.formed_units.Gives.{Fine, Gives, then, means, nothing_gives, sign_gives, spelled_gives, address_spelled, at_gives, marked_gives, word_gives, name_gives, optional_gives, each_gives}
 use Rattle.accepted_texts.proofs.formed_units.Expressions.{behind, before}
 use Rattle.accepted_texts.proofs.formed_units.Statements.{type_gives, initial_gives, body_gives}
 
@@ -83,9 +83,9 @@ module _ (most : ℕ) where
 
   -- ---- sections
 
-  address_gives : (o : Option (List ℕ)) → Gives most (address o) (Unit {0})
+  address_gives : (o : Option (List ℕ)) → Gives most (address o) (IfThere FormedAddress o)
   address_gives None ts rest h w = nothing_gives most ts rest h w
-  address_gives (Some text) ts rest h w = ((behind most x.At (spelled x.Address text) (NotEmpty text) (spelled_gives most x.Address text) ts rest h w).0, tt)
+  address_gives (Some text) ts rest h w = behind most x.At (spelled x.Address text) (FormedAddress text) (address_spelled most text) ts rest h w
 
   typed_gives : (t : TypeSpec ℕ) (o : Option (Init ℕ)) → Gives most (sign x.Colon ⋆ type_spec t ⋆ start_value o ⋆ sign x.Semicolon) (FormedType t × FormedStart o)
   typed_gives t o =
@@ -95,9 +95,9 @@ module _ (most : ℕ) where
   item_gives : (i : Item ℕ) → Gives most (item i) (FormedItem i)
   item_gives i =
       marked_gives most i.marks (names i.names ⋆ address i.address ⋆ sign x.Colon ⋆ type_spec i.kind ⋆ start_value i.initial ⋆ sign x.Semicolon) (FormedItem i)
-      (means most _ ((FormedNames i.names × (length i.names ≤ most)) × (Unit {0} × (FormedType i.kind × FormedStart i.initial))) (FormedItem i) (λ k. record { names = k.0.0; kind = k.1.1.0; initial = k.1.1.1 })
-      (then most (names i.names) (address i.address ⋆ sign x.Colon ⋆ type_spec i.kind ⋆ start_value i.initial ⋆ sign x.Semicolon) (FormedNames i.names × (length i.names ≤ most)) (Unit {0} × (FormedType i.kind × FormedStart i.initial)) (names_gives i.names)
-      (then most (address i.address) (sign x.Colon ⋆ type_spec i.kind ⋆ start_value i.initial ⋆ sign x.Semicolon) (Unit {0}) (FormedType i.kind × FormedStart i.initial) (address_gives i.address) (typed_gives i.kind i.initial))))
+      (means most _ ((FormedNames i.names × (length i.names ≤ most)) × (IfThere FormedAddress i.address × (FormedType i.kind × FormedStart i.initial))) (FormedItem i) (λ k. record { names = k.0.0; address = k.1.0; kind = k.1.1.0; initial = k.1.1.1 })
+      (then most (names i.names) (address i.address ⋆ sign x.Colon ⋆ type_spec i.kind ⋆ start_value i.initial ⋆ sign x.Semicolon) (FormedNames i.names × (length i.names ≤ most)) (IfThere FormedAddress i.address × (FormedType i.kind × FormedStart i.initial)) (names_gives i.names)
+      (then most (address i.address) (sign x.Colon ⋆ type_spec i.kind ⋆ start_value i.initial ⋆ sign x.Semicolon) (IfThere FormedAddress i.address) (FormedType i.kind × FormedStart i.initial) (address_gives i.address) (typed_gives i.kind i.initial))))
 
   section_gives : (allowed : Modifier → Bool) (s : Section ℕ) → Gives most (section allowed s) (FormedSection s)
   section_gives allowed s =
@@ -308,6 +308,6 @@ module _ (most : ℕ) where
   declaration_gives (decls.Program p) ts rest h w = program_gives p ts rest h w
   declaration_gives (decls.Configuration c) ts rest h w = configuration_gives c ts rest h w
 
-  -- what lexemes spell is formed, where none is empty and there are at most so many
+  -- what lexemes spell is formed, where each of them is and there are at most so many
   pub derived : (ds : List (Decl ℕ)) (ts rest : List Lexeme) → Fine most ts → each declaration ds ts rest → IsFormed most ds
   derived ds ts rest h w = (each_gives most declaration (FormedDecl most) declaration_gives ds ts rest h w).1

@@ -1,6 +1,8 @@
 -- What the grammar gives of a unit beyond a tree of any form: sections stand where they may, enumerations have values, brackets have an
--- index, and no name is empty.
-use Rattle.std.specs.Prelude.{◌≡◌, ◌≤◌, ℕ, false, true, List, [], ◌∷◌, ◌++◌, map, length, Option, Some, None}
+-- index, only the address of a single bit has a point, and no name is empty.
+use Rattle.std.specs.Prelude.{◌≡◌, ◌≤◌, ◌⊎◌, ℕ, false, true, List, [], ◌∷◌, ◌++◌, map, length, Option, Some, None}
+use Rattle.plc_text.specs.Text.{folded}
+use Rattle.st_tree.specs.declared.address.Width.TheVariants as width
 use Rattle.st_tree.specs.declared.name.Name.{Name}
 use Rattle.st_tree.specs.declared.expression.Root.{Root}
 use Rattle.st_tree.specs.declared.expression.Root.TheVariants as roots
@@ -29,6 +31,8 @@ use Rattle.st_tree.specs.declared.configuration.Resource.{Resource}
 use Rattle.st_tree.specs.declared.unit.Decl.{Decl}
 use Rattle.st_tree.specs.declared.unit.Decl.TheVariants as decls
 use Rattle.st_tree.specs.declared.unit.Unit.{Unit as ProgramText}
+use Rattle.st_tree.specs.declared.token.TokenKind.TheVariants as token
+use Rattle.st_tree.specs.Address.{width_of, bit_of}
 use Rattle.st_tree.specs.Token.{Token, Tokens}
 use Rattle.st_tree.specs.Reads.{lexemes}
 use Rattle.st_tree.specs.Declarations.{is_global, Derives}
@@ -183,8 +187,13 @@ pub record FormedNames (ns : List Name) : Type 0 where
   pub some : NotEmpty ns
   pub each : Every FormedName ns
 
+-- a single bit, or no number behind a point
+abbrev pub FormedAddress : List ℕ → Type 0
+FormedAddress text = (width_of text ≡ width.Bit) ⊎ (bit_of text ≡ 0)
+
 pub record FormedItem (x : Item ℕ) : Type 0 where
   pub names : FormedNames x.names
+  pub address : IfThere FormedAddress x.address
   pub kind : FormedType x.kind
   pub initial : FormedStart x.initial
 
@@ -274,18 +283,22 @@ IsFormed most ds = Every (FormedDecl most) ds
 
 -- ---- laws
 
--- no token is empty
-abbrev pub NoneEmpty : List Token → Type 0
-NoneEmpty ts = Every (λ (t : Token). NotEmpty t.text) ts
+-- a token is not empty, and only the address of a single bit has a point
+pub record FormedToken (t : Token) : Type 0 where
+  pub some : NotEmpty t.text
+  pub address : t.kind ≡ token.Address → FormedAddress (folded t.text)
+
+abbrev pub AreFormed : List Token → Type 0
+AreFormed ts = Every FormedToken ts
 
 pub record FormedLaws : Type 0 where
-  -- the tokens of a text are not empty, and at most as many as its bytes
-  pub tokens : (text : List ℕ) (tokens : List Token) → Tokens text tokens → NoneEmpty tokens × (length tokens ≤ length text)
+  -- the tokens of a text are formed, and at most as many as its bytes
+  pub tokens : (text : List ℕ) (tokens : List Token) → Tokens text tokens → AreFormed tokens × (length tokens ≤ length text)
   -- a unit that tokens spell is formed
-  pub formed : (most : ℕ) (tokens : List Token) (unit : ProgramText) → NoneEmpty tokens → length tokens ≤ most → Derives (lexemes tokens) unit → IsFormed most unit.decls
+  pub formed : (most : ℕ) (tokens : List Token) (unit : ProgramText) → AreFormed tokens → length tokens ≤ most → Derives (lexemes tokens) unit → IsFormed most unit.decls
   -- so is the unit of a text
   pub text : (most : ℕ) (text : List ℕ) (tokens : List Token) (unit : ProgramText) → Tokens text tokens → length text ≤ most → Derives (lexemes tokens) unit → IsFormed most unit.decls
   -- and that of a text of which other tokens with the same words are read, as the prelude's
-  pub changed : (most : ℕ) (text : List ℕ) (tokens : List Token) (f : Token → Token) (unit : ProgramText) → ((t : Token) → (f t).text ≡ t.text) → Tokens text tokens → length text ≤ most → Derives (lexemes (map f tokens)) unit → IsFormed most unit.decls
+  pub changed : (most : ℕ) (text : List ℕ) (tokens : List Token) (f : Token → Token) (unit : ProgramText) → ((t : Token) → ((f t).kind ≡ t.kind) × ((f t).text ≡ t.text)) → Tokens text tokens → length text ≤ most → Derives (lexemes (map f tokens)) unit → IsFormed most unit.decls
   -- one behind the other
   pub joined : (most : ℕ) (ds es : List (Decl ℕ)) → IsFormed most ds → IsFormed most es → IsFormed most (ds ++ es)
