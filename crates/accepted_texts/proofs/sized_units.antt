@@ -2,14 +2,19 @@ pub mod Sizes
 pub mod Parts
 pub mod Regions
 pub mod Few
-pub mod Globals
 pub mod Spans
 pub mod Sound
 pub mod Counted
+pub mod Variables
 pub mod Shown
 pub mod Kept
 pub mod Depths
+pub mod Instances
 pub mod Top
 pub mod Told
 pub mod Starts
+pub mod Addresses
+pub mod Bits
+pub mod Outputs
+pub mod Bytes
 mod Whole

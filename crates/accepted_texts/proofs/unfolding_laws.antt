@@ -7,5 +7,6 @@ pub mod ShapedLaws
 pub mod StepLaws
 pub mod DepthLaws
 pub mod CycleLaws
+pub mod RegionLaws
 pub mod GoodLaws
 pub mod UnfoldingLaws

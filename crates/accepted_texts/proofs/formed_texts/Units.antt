@@ -118,7 +118,7 @@ sections_formed (member.Section x ∷ ms) h = (h.0, sections_formed ms h.1)
 sections_formed (member.Method m ∷ ms) h = sections_formed ms h.1
 
 module _ (most : ℕ) where
-  abbrev FormedPart : Declaration → Type 0
+  abbrev pub FormedPart : Declaration → Type 0
   FormedPart (an_entry t) = FormedEntry most t
   FormedPart (a_global g) = FormedItem g.item
   FormedPart (an_interface d) = FormedInterface d
@@ -163,7 +163,7 @@ module _ (most : ℕ) where
   classes_formed (declaration.Configuration c ∷ ds) h = classes_formed ds h.1
 
   module _ (decls : List (Decl ℕ)) (h : IsFormed most decls) where
-    all_parts : Every FormedPart (declarations decls)
+    pub all_parts : Every FormedPart (declarations decls)
     unfolding declarations
     all_parts = every_joined FormedPart declarations_of decls (over (FormedDecl most) (λ d. Every FormedPart (declarations_of d)) decl_parts decls h)
 

@@ -13,7 +13,7 @@ use Rattle.st_values.specs.Shape.{Shape, Elementary, Enumeration, Reference, Int
 use Rattle.st_values.proofs.ShapeLaws.{mapped_some}
 use Rattle.st_values.proofs.ValueLaws.{then_some}
 use Rattle.resolution_order.specs.told_laws.ToldLaws.{Every}
-use Rattle.accepted_texts.specs.sized_units.Sized.{values_of, all_values_of, IsCounted, AreCounted}
+use Rattle.mem_layout.specs.loaded_meaning.Sized.{values_of, all_values_of, IsCounted, AreCounted}
 use Rattle.accepted_texts.proofs.sized_units.Sizes.{at_least_one}
 use Rattle.accepted_texts.proofs.sized_units.Parts.{NoEmptyArray, NoEmptyArrays}
 

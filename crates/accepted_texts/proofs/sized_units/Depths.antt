@@ -1,6 +1,6 @@
 -- Of a type that is within the limits all values are counted.
-use Rattle.std.proofs.Common.{◌≡◌, ◌≤◌, ◌<◌, ℕ, zero, suc, ◌+◌, ℤ, Bool, true, false, List, [], ◌∷◌, Option, Some, None, refl, sym, ap, ◌∙◌, subst, inl, inr, arith}
-use Rattle.std.specs.Prelude.{nat_lt, not, ◌&&◌, ◌||◌, if◌then◌else◌}
+use Rattle.std.proofs.Common.{◌≡◌, ◌<◌, ℕ, zero, suc, ℤ, Bool, true, false, List, [], ◌∷◌, Option, Some, None, refl, sym, ap, ◌∙◌, subst, inl, inr, arith}
+use Rattle.std.specs.Prelude.{not, ◌&&◌, ◌||◌, if◌then◌else◌}
 use Rattle.std.specs.List.{list_any}
 use Rattle.std.proofs.lemmas.Bool.{ltb-true}
 use Rattle.plc_text.specs.declared.code.Code.TheVariants.{E16}
@@ -17,8 +17,7 @@ use Rattle.st_unit_rules.specs.declared_names.WrittenTypes.{array_depth, type_wr
 use Rattle.st_unit_rules.proofs.declared_names.DimensionLaws.{array_depth-Array, array_depth-Elementary, array_depth-Enumeration, array_depth-Structure, array_depth-Instance, array_depth-Reference, array_depth-Interface}
 use Rattle.st_unit_rules.specs.Limits.{contents, is_composite, has_many_dimensions, has_depth, has_depth_told, is_too_deep, is_endless, too_deep, variable_too_deep, values_within, values_of}
 use Rattle.st_unit_rules.specs.UnitRefusal.{BreaksNothing}
-use Rattle.accepted_texts.proofs.unfolding_laws.CycleLaws.{not_deep}
-use Rattle.accepted_texts.proofs.sized_units.Regions.{not_when}
+use Rattle.accepted_texts.proofs.unfolding_laws.CycleLaws.{not_when, not_deep}
 
 not_true : (b : Bool) → (b ≡ true → ⊥) → b ≡ false
 not_true true f = absurd (f refl)
@@ -28,7 +27,7 @@ never : (b : Bool) → (b && false) ≡ false
 never true = refl
 never false = refl
 
-type_is : (t : StType) (o : StType-F StType) → out-StType t ≡ o → t ≡ roll-StType o
+pub type_is : (t : StType) (o : StType-F StType) → out-StType t ≡ o → t ≡ roll-StType o
 type_is t o e = sym (roll-out-StType t) ∙ ap roll-StType e
 
 module _ (s : Scope) where

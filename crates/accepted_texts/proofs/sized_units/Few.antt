@@ -10,9 +10,9 @@ use Rattle.st_unit_rules.specs.DeclarationRules.{sort_faults, declaration_faults
 use Rattle.st_unit_rules.specs.Limits.{too_many_declarations}
 use Rattle.st_unit_rules.specs.UnitRefusal.{BreaksNothing, faults_of}
 use Rattle.resolution_order.specs.told_laws.ToldLaws.{Every}
-use Rattle.accepted_texts.proofs.unfolding_laws.CycleLaws.{none_in}
+use Rattle.accepted_texts.proofs.unfolding_laws.CycleLaws.{none_in, not_when}
 use Rattle.accepted_texts.proofs.unfolding_laws.ListLaws.{every_front, every_back, every_from}
-use Rattle.accepted_texts.proofs.sized_units.Regions.{not_when, below_bound, length_one}
+use Rattle.accepted_texts.proofs.sized_units.Regions.{below_bound, length_one}
 
 length_joined : {X : Type 0} (xs ys : List X) → length (xs ++ ys) ≡ length xs + length ys
 length_joined [] ys = omega arith

@@ -1,8 +1,9 @@
 -- What a checked program keeps of the types of its unit.
-use Rattle.std.proofs.Common.{◌≡◌, ◌≤◌, ◌<◌, ℕ, zero, suc, ◌+◌, Bool, true, false, List, [], ◌∷◌, ◌++◌, map, reverse, length, Option, Some, None, refl, sym, ap, ◌∙◌, subst, arith, append_assoc}
+use Rattle.std.proofs.Common.{◌≡◌, ◌≤◌, ◌<◌, ℕ, zero, ◌+◌, Bool, true, false, List, [], ◌∷◌, ◌++◌, map, reverse, length, Option, Some, refl, sym, ap, ◌∙◌, subst, arith, append-nil, append_assoc}
 use Rattle.std.specs.Prelude.{if◌then◌else◌, flat_map, filter, option_map, slice_get, ◌&&◌, not}
 use Rattle.std.specs.Option.{is_some}
 use Rattle.std.proofs.lemmas.List.{length-map, map-append, reverse-append}
+use Rattle.std.proofs.lemmas.List.Elements.{filter-append}
 use Rattle.std.proofs.lemmas.Option.{slice_get-map, slice_get_within}
 use Rattle.st_types.specs.declared.st_type.StType.{StType, out-StType}
 use Rattle.st_types.specs.declared.st_type.StType.TheOpen.{StType-F}
@@ -18,36 +19,34 @@ use Rattle.st_tree.specs.declared.program.Program.{Program}
 use Rattle.st_tree.specs.declared.program.Target.{Target}
 use Rattle.st_tree.specs.declared.unit.Decl.{Decl}
 use Rattle.st_rules.specs.declared.names.DeclaredField.{DeclaredField}
-use Rattle.st_rules.specs.declared.names.DeclaredNames.{DeclaredNames}
 use Rattle.st_rules.specs.declared.names.DeclaredVariable.{DeclaredVariable}
-use Rattle.st_rules.specs.declared.names.TypeParts.{TypeParts}
-use Rattle.st_rules.specs.declared.names.TypeParts.TheVariants as parts
 use Rattle.st_rules.specs.Classes.{classes_in, chain}
-use Rattle.st_rules.specs.Scope.{Scope, parts_of, field_list, variables_of, is_instance_sort, is_body_sort, is_of_instance}
+use Rattle.st_rules.specs.Scope.{Scope, parts_of, field_list, variables_of, is_instance_sort, is_of_instance}
 use Rattle.st_rules.proofs.Booleans.{some-same}
 use Rattle.st_unit_rules.specs.declared_names.Declarations.{entries_in, programs_in}
-use Rattle.st_unit_rules.specs.declared_names.UnitNames.{unit_names, names_from, unit_scope, class_scope, program_scope, class_declared, parts_declared, group_declared, written_above}
+use Rattle.st_unit_rules.specs.declared_names.UnitNames.{unit_names, unit_scope, class_scope, program_scope, class_declared, group_declared, written_above}
 use Rattle.st_unit_rules.specs.declared_names.Variables as written
 use Rattle.st_unit_rules.specs.declared_names.Variables.{Written, declared_each, member_targets, sections_written, is_kept_written, is_body_written}
 use Rattle.st_unit_rules.specs.declared_names.WrittenTypes.{type_written}
-use Rattle.st_unit_rules.specs.Checked.{Each, TypedGroup, TypedTypeBody, TypedEntry, TypedClass, IsChecked}
+use Rattle.st_unit_rules.specs.Checked.{Each, TypedTypeBody, TypedEntry, TypedClass, IsChecked}
 use Rattle.st_unit_rules.specs.Limits.{kinds_told, field_kinds, variable_kinds}
 use Rattle.st_unit_rules.specs.UnitRefusal.{BreaksNothing}
 use Rattle.st_values.specs.Program as seen
-use Rattle.st_values.specs.Program.{Variable, TypeEntry, class_at, chain_of, own_of, own_variables, class_variables}
+use Rattle.st_values.specs.Program.{Variable, Class, TypeEntry, class_at, chain_of, own_of, own_variables, class_variables}
 use Rattle.st_values.specs.Shape as shape
 use Rattle.st_values.specs.Shape.{fields_of}
 use Rattle.st_values.specs.View.{sections_in, groups_in, texts, type_body, type_entry, class_of, program_of}
 use Rattle.resolution_order.specs.told_laws.ToldLaws.{Every}
-use Rattle.resolution_order.proofs.told_laws.Telling.{told_laws}
 use Rattle.accepted_texts.proofs.unfolding_laws.ListLaws.{every_append, every_front, every_back, every_means, if_there, each_get, from_get}
 use Rattle.accepted_texts.proofs.unfolding_laws.NumberLaws.{IsStructure, IsEnumeration, IsClass, opened}
-use Rattle.accepted_texts.proofs.unfolding_laws.DeclaredLaws.{scope, members_are, members_say}
+use Rattle.accepted_texts.proofs.unfolding_laws.DeclaredLaws.{targets_long, scope, fields_are, members_are, members_say}
 use Rattle.accepted_texts.proofs.unfolding_laws.ChainLaws.{chain_there, chain_same, sections_typed, class_seen}
+use Rattle.accepted_texts.proofs.unfolding_laws.StepLaws.{structure_typed}
 use Rattle.accepted_texts.proofs.sized_units.Counted.{sums, Sums, Keeps}
 use Rattle.accepted_texts.proofs.sized_units.Few.{few_classes}
 use Rattle.accepted_texts.proofs.sized_units.Sound.{Sound, element_sound, unit_sound}
-use Rattle.accepted_texts.proofs.sized_units.Shown.{Alike, alike_sums, each_append, filter_append, groups_alike, kept_alike}
+use Rattle.accepted_texts.proofs.sized_units.Variables.{each_append}
+use Rattle.accepted_texts.proofs.sized_units.Shown.{Alike, alike_sums, groups_alike, kept_alike}
 
 -- what the length of a text gives and no rule: an enumeration has so few values
 pub record EnumerationsAreFew (decls : List (Decl ℕ)) : Type 0 where
@@ -65,18 +64,7 @@ kind_declared v = v.kind
 
 -- ---- variables that are declared, by what is written
 
-either_long : (n : ℕ) (b : Bool) (ts us : List Target) → length ts ≡ n → length us ≡ n → length (if b then ts else us) ≡ n
-either_long n true ts us h k = h
-either_long n false ts us h k = k
-
 module _ (s : Scope) where
-  targets_long : (k l : ℕ) (ws : List Written) → length (member_targets s k l ws) ≡ length ws
-  targets_long k l [] = refl
-  targets_long k l (w ∷ ws) =
-      either_long (suc (length ws)) w.constant _ _ (ap suc (targets_long k l ws))
-      (either_long (suc (length ws)) (is_instance_sort w.sort) _ _ (ap suc (targets_long (suc k) l ws))
-      (either_long (suc (length ws)) (is_body_sort w.sort) _ _ (ap suc (targets_long k (suc l) ws)) (ap suc (targets_long k l ws))))
-
   declared_kinds : (ts : List Target) (ws : List Written) → length ts ≡ length ws → map kind_declared (filter is_of_instance (declared_each s ts ws)) ≡ map (λ (w : Written). type_written s w.item.kind) (filter is_kept_written ws)
   declared_kinds [] [] e = refl
   declared_kinds [] (w ∷ ws) e = absurd (omega (arith, e))
@@ -90,7 +78,7 @@ module _ (s : Scope) where
       by h false = h
 
   pub members_kinds : (k l : ℕ) (ws : List Written) → map kind_declared (filter is_of_instance (declared_each s (member_targets s k l ws) ws)) ≡ map (λ (w : Written). type_written s w.item.kind) (filter is_kept_written ws)
-  members_kinds k l ws = declared_kinds (member_targets s k l ws) ws (targets_long k l ws)
+  members_kinds k l ws = declared_kinds (member_targets s k l ws) ws (targets_long s k l ws)
 
 -- ---- what checked declarations are
 
@@ -98,30 +86,6 @@ enumeration_same : (decls : List (Decl ℕ)) (ns : List Name) (b : TypeBody Note
 enumeration_same decls ns (body.Enumeration ms) h = ap body.Enumeration h
 enumeration_same decls ns (body.Alias t) h = absurd h
 enumeration_same decls ns (body.Structure gs) h = absurd h
-
-structure_typed : (decls : List (Decl ℕ)) (gs : List (FieldGroup ℕ)) (b : TypeBody Note) → TypedTypeBody decls (body.Structure gs) b → (hs : List (FieldGroup Note)) × (b ≡ body.Structure hs) × Each (TypedGroup (unit_scope decls (unit_names decls))) gs hs
-structure_typed decls gs (body.Structure hs) h = (hs, refl, h)
-structure_typed decls gs (body.Alias t) h = absurd h
-structure_typed decls gs (body.Enumeration ns) h = absurd h
-
-parts_in : Option TypeParts → TypeParts
-parts_in None = parts.Nothing
-parts_in (Some p) = p
-
-parts_are : (s : Scope) (n : ℕ) (p : TypeParts) → slice_get s.names.parts n ≡ Some p → parts_of s n ≡ p
-unfolding parts_in
-parts_are s n p e = ap parts_in e
-
-module _ (decls : List (Decl ℕ)) where
-  parts_there : (n : ℕ) (t : TypeDecl ℕ) → slice_get (entries_in decls) n ≡ Some t → slice_get (names_from decls (unit_names decls)).parts n ≡ Some (parts_declared decls (unit_names decls) t.body)
-  unfolding names_from
-  parts_there n t e = slice_get-map (λ (d : TypeDecl ℕ). parts_declared decls (unit_names decls) d.body) (entries_in decls) n ∙ ap (option_map (λ (d : TypeDecl ℕ). parts_declared decls (unit_names decls) d.body)) e
-
-  fields_are : (locals : List DeclaredVariable) (n : ℕ) (h : IsStructure decls n) → field_list (parts_of (scope decls locals) n) ≡ flat_map (group_declared decls (unit_names decls)) h.groups
-  fields_are locals n h =
-      ap field_list
-      (parts_are (scope decls locals) n (parts_declared decls (unit_names decls) h.entry.body) (ap (λ (a : DeclaredNames). slice_get a.parts n) (sym (told_laws.settled decls)) ∙ parts_there n h.entry h.there)
-      ∙ ap (parts_declared decls (unit_names decls)) h.is)
 
 module _ (decls : List (Decl ℕ)) (p : Program) (checked : IsChecked decls p) (good : BreaksNothing decls) (all_told : PartsAreTold decls) (few : EnumerationsAreFew decls) (locals : List DeclaredVariable) where
   abbrev s : Scope
@@ -185,7 +149,7 @@ module _ (decls : List (Decl ℕ)) (p : Program) (checked : IsChecked decls p) (
   along [] h = tt
   along (c ∷ cs) h =
       let rest = flat_map (variables_of s) cs in
-      let e = ap (map kind_declared) (filter_append is_of_instance (variables_of s c) rest) ∙ map-append kind_declared (filter is_of_instance (variables_of s c)) (filter is_of_instance rest) in
+      let e = ap (map kind_declared) (filter-append is_of_instance (variables_of s c) rest) ∙ map-append kind_declared (filter is_of_instance (variables_of s c)) (filter is_of_instance rest) in
       subst (Each (Alike decls) (own_variables pp (c ∷ cs))) (sym e)
       (each_append (Alike decls) (own_of (class_at pp c)) (own_variables pp cs) _ _ (own_alike c h.0) (along cs h.1))
 
@@ -199,8 +163,18 @@ module _ (pp : seen.Program) where
   sums_append f [] ys = omega arith
   sums_append f (x ∷ xs) ys = let k = sums_append f xs ys in omega (arith, k)
 
-  pub turned : (c : ℕ) (cs : List ℕ) → own_variables pp (reverse (c ∷ cs)) ≡ own_variables pp (reverse cs) ++ (own_of (class_at pp c) ++ [])
+  turned : (c : ℕ) (cs : List ℕ) → own_variables pp (reverse (c ∷ cs)) ≡ own_variables pp (reverse cs) ++ (own_of (class_at pp c) ++ [])
   turned c cs = ap (own_variables pp) (reverse-append (c ∷ []) cs) ∙ own_append (reverse cs) (c ∷ [])
+
+  -- a program has no base
+  pub program_variables : (c : ℕ) (k : Class) → class_at pp c ≡ Some k → k.chain ≡ c ∷ [] → class_variables pp c ≡ k.own
+  unfolding class_variables
+  program_variables c k e q =
+      ap (λ o. own_variables pp (reverse (chain_of o))) e
+      ∙ ap (λ cs. own_variables pp (reverse cs)) q
+      ∙ turned c []
+      ∙ append-nil (own_of (class_at pp c))
+      ∙ ap own_of e
 
   every_turned : (P : Variable → Type 0) (cs : List ℕ) → Every P (own_variables pp cs) → Every P (own_variables pp (reverse cs))
   every_turned P [] h = tt

@@ -3,7 +3,7 @@ use Rattle.std.proofs.Common.{◌≡◌, ◌≤◌, ◌<◌, ℕ, zero, suc, ◌
 use Rattle.std.specs.Prelude.{max}
 use Rattle.st_values.specs.Shape.{Shape, Elementary, Enumeration, Reference, Interface, Array, Structure, Instance, Fields, no_fields, field_then}
 use Rattle.mem_layout.specs.Layout.{IsSmall, EachIsSmall}
-use Rattle.accepted_texts.specs.sized_units.Sized.{values_of, all_values_of, HasFewElements, HaveFewElements}
+use Rattle.mem_layout.specs.loaded_meaning.Sized.{values_of, all_values_of, HasFewElements, HaveFewElements}
 use Rattle.accepted_texts.proofs.sized_units.Sizes.{at_least_one, size_within}
 
 abbrev mutual

@@ -4,9 +4,9 @@ use Rattle.std.specs.Prelude.{not, ◌&&◌, ◌||◌, nat_lt, nat_le, if◌then
 use Rattle.std.specs.List.{list_any}
 use Rattle.std.proofs.lemmas.Bool.{le-leb, ltb-false}
 use Rattle.std.proofs.lemmas.List.{map-append}
+use Rattle.std.proofs.lemmas.List.Concat.{flat_map-append}
 use mathlib.Core.Logic.{dite}
 use native.Mathlib.Decide.{ℕ_discrete}
-use Rattle.plc_text.specs.declared.code.Code.{Code}
 use Rattle.plc_text.specs.declared.code.Code.TheVariants.{E15, E16}
 use Rattle.st_tree.specs.declared.configuration.Configuration.{Configuration}
 use Rattle.st_tree.specs.declared.configuration.InstanceSpec.{InstanceSpec}
@@ -17,7 +17,6 @@ use Rattle.st_tree.specs.declared.declaration.TypeDecl.{TypeDecl}
 use Rattle.st_tree.specs.declared.unit.Decl.{Decl}
 use Rattle.st_tree.specs.declared.unit.Decl.TheVariants as declaration
 use Rattle.st_meaning.specs.st_frame.Footprint.{Has}
-use Rattle.st_rules.specs.Faults.{when}
 use Rattle.st_rules.specs.Numbered.{each_numbered}
 use Rattle.st_rules.specs.Scope.{Scope}
 use Rattle.st_rules.proofs.Booleans.{differ_from_test, either, neither, or-first, or-second, or-neither}
@@ -30,12 +29,12 @@ use Rattle.st_unit_rules.specs.DeclarationRules.{region_values, region_faults, r
 use Rattle.st_unit_rules.specs.Limits.{sum_of, too_many_regions, too_many_values}
 use Rattle.st_unit_rules.specs.UnitRefusal.{BreaksNothing}
 use Rattle.resolution_order.specs.told_laws.ToldLaws.{Every}
-use Rattle.accepted_texts.proofs.unfolding_laws.CycleLaws.{none_in, none_there}
+use Rattle.accepted_texts.proofs.unfolding_laws.CycleLaws.{none_in, not_when, none_there}
 use Rattle.accepted_texts.proofs.unfolding_laws.ListLaws.{every_front, every_back, every_from}
 
-pub not_when : (b : Bool) (code : Code) (line : ℕ) → when b code line ≡ [] → b ≡ false
-not_when true code line e = cc
-not_when false code line e = refl
+pub not_false : (b : Bool) → not b ≡ false → b ≡ true
+not_false true h = refl
+not_false false h = cc
 
 and_false : (a b : Bool) → (a && b) ≡ false → a ≡ true → b ≡ false
 and_false true b h e = h
@@ -114,10 +113,6 @@ module _ (decls : List (Decl ℕ)) where
   abbrev FinePlaced : Placed → Type 0
   FinePlaced x = FineAt x x.declaration
 
-  not_false : (b : Bool) → not b ≡ false → b ≡ true
-  not_false true h = refl
-  not_false false h = cc
-
   tasks_fine : (instances : List InstanceSpec) (n : ℕ) (ts : List TaskSpec) → each_numbered (task_faults instances) n ts ≡ [] → Every (λ (t : TaskSpec). list_any (runs_in t.name.text) instances ≡ true) ts
   tasks_fine instances n [] h = tt
   tasks_fine instances n (t ∷ ts) h =
@@ -167,25 +162,21 @@ module _ (decls : List (Decl ℕ)) where
   item_regions s item first [] = refl
   item_regions s item first (w ∷ ws) = ap (λ rs. region_of_global w ++ rs) (item_regions s item false ws)
 
-  flat_append : {X Y : Type 0} (f : X → List Y) (xs ys : List X) → flat_map f (xs ++ ys) ≡ flat_map f xs ++ flat_map f ys
-  flat_append f [] ys = refl
-  flat_append f (x ∷ xs) ys = ap (λ zs. f x ++ zs) (flat_append f xs ys) ∙ sym (append_assoc (f x) (flat_map f xs) (flat_map f ys))
-
   items_regions : (s : Section ℕ) (items : List (Item ℕ)) → flat_map regions_of (flat_map (λ item. globals_of_item s item true (item_written s item)) items) ≡ flat_map region_of_global (flat_map (item_written s) items)
   items_regions s [] = refl
   items_regions s (item ∷ items) =
-      flat_append regions_of (globals_of_item s item true (item_written s item)) (flat_map (λ x. globals_of_item s x true (item_written s x)) items)
+      flat_map-append regions_of (globals_of_item s item true (item_written s item)) (flat_map (λ x. globals_of_item s x true (item_written s x)) items)
       ∙ ap (λ rs. rs ++ flat_map regions_of (flat_map (λ x. globals_of_item s x true (item_written s x)) items)) (item_regions s item true (item_written s item))
       ∙ ap (λ rs. flat_map region_of_global (item_written s item) ++ rs) (items_regions s items)
-      ∙ sym (flat_append region_of_global (item_written s item) (flat_map (item_written s) items))
+      ∙ sym (flat_map-append region_of_global (item_written s item) (flat_map (item_written s) items))
 
   sections_regions : (ss : List (Section ℕ)) → flat_map regions_of (flat_map globals_of_section ss) ≡ flat_map region_of_global (sections_written ss)
   sections_regions [] = refl
   sections_regions (s ∷ ss) =
-      flat_append regions_of (globals_of_section s) (flat_map globals_of_section ss)
+      flat_map-append regions_of (globals_of_section s) (flat_map globals_of_section ss)
       ∙ ap (λ rs. rs ++ flat_map regions_of (flat_map globals_of_section ss)) (items_regions s s.items)
       ∙ ap (λ rs. flat_map region_of_global (section_written s) ++ rs) (sections_regions ss)
-      ∙ sym (flat_append region_of_global (section_written s) (sections_written ss))
+      ∙ sym (flat_map-append region_of_global (section_written s) (sections_written ss))
 
   instances_fine : (e : List Declaration) (b : List (List ℕ)) (r : List Region) (d : Decl ℕ) → Every FinePlaced (place_each e b r (declarations_of d)) → Fine (r ++ flat_map regions_of (declarations_of d)) (instances_of (is_first_configuration e) d)
   instances_fine e b r (declaration.Configuration c) h = by (is_first_configuration e) h.0.regions

@@ -6,7 +6,7 @@ use Rattle.st_types.specs.declared.elem.Elem.TheVariants as elem
 use Rattle.st_types.specs.Elem.{bytes}
 use Rattle.st_values.specs.Shape.{Shape, Elementary, Enumeration, Reference, Interface, Array, Structure, Instance, Fields, no_fields, field_then}
 use Rattle.mem_layout.specs.store_bytes.Place.{gap, alignment, greatest, size, ending}
-use Rattle.accepted_texts.specs.sized_units.Sized.{values_of, all_values_of}
+use Rattle.mem_layout.specs.loaded_meaning.Sized.{values_of, all_values_of}
 
 abbrev IsStep : ℕ → Type 0
 IsStep a = (a ≡ 1) ⊎ ((a ≡ 2) ⊎ ((a ≡ 4) ⊎ (a ≡ 8)))

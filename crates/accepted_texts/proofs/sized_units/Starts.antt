@@ -14,7 +14,7 @@ use Rattle.st_values.specs.Initial.{number_given, list_given, fields_given, give
 use Rattle.st_meaning.specs.st_frame.Promise.Declarations.{Each, StartsRight, StartRight, VariableFits}
 use Rattle.st_meaning.specs.st_frame.Promise.Programs.{ProgramIs}
 use Rattle.mem_layout.specs.store_bytes.InitialLaws.{EachGiven, IsInRange, AreInRange, StartsInRange}
-use Rattle.accepted_texts.specs.sized_units.Sized.{IsCounted, AreCounted, IsSized}
+use Rattle.mem_layout.specs.loaded_meaning.Sized.{IsCounted, AreCounted, IsSized}
 
 udint_fits : (w : ℕ) → w < 4294967296 → Fits Udint (pos w)
 udint_fits w h = (omega (arith, ints), omega (arith, ints))

@@ -14,6 +14,7 @@ use Rattle.st_unit_rules.specs.declared_names.UnitNames.{unit_names, unit_scope,
 use Rattle.st_unit_rules.specs.declared_names.WrittenTypes.{type_written}
 use Rattle.resolution_order.specs.told_laws.ToldLaws.{Every}
 use Rattle.accepted_texts.proofs.unfolding_laws.CycleLaws.{all_placed}
+use Rattle.accepted_texts.proofs.unfolding_laws.RegionLaws.{OfProgram, all_programs}
 use Rattle.accepted_texts.proofs.unfolding_laws.ListLaws.{every_append, every_front, every_back, every_at, every_from, every_means, every_map, every_mapped}
 use Rattle.accepted_texts.specs.told_units.Told.{IsToldVariable, in_program, AllIsTold}
 use Rattle.accepted_texts.proofs.sized_units.Kept.{EnumerationsAreFew, PartsAreTold}
@@ -84,20 +85,19 @@ module _ (decls : List (Decl ℕ)) (all : AllIsTold decls) where
   entries_told (declaration.Program d ∷ ds) h = entries_told ds h.1
   entries_told (declaration.Configuration c ∷ ds) h = entries_told ds (every_back ToldPart (flat_map globals_of_section (configuration_globals c)) (flat_map declarations_of ds) h.1)
 
-  programs_told : (ds : List (Decl ℕ)) → Every ToldPart (flat_map declarations_of ds) → Every ToldProgram (programs_in ds)
-  programs_told [] h = tt
-  programs_told (declaration.Program d ∷ ds) h = (h.0, programs_told ds h.1)
-  programs_told (declaration.Types l ts ∷ ds) h = programs_told ds (every_back ToldPart (map an_entry ts) (flat_map declarations_of ds) h)
-  programs_told (declaration.Globals s ∷ ds) h = programs_told ds (every_back ToldPart (globals_of_section s) (flat_map declarations_of ds) h)
-  programs_told (declaration.Interface d ∷ ds) h = programs_told ds h.1
-  programs_told (declaration.Class d ∷ ds) h = programs_told ds h.1
-  programs_told (declaration.Function d ∷ ds) h = programs_told ds h.1
-  programs_told (declaration.Configuration c ∷ ds) h = programs_told ds (every_back ToldPart (flat_map globals_of_section (configuration_globals c)) (flat_map declarations_of ds) h.1)
+  program_part : (d : Declaration) → ToldPart d → OfProgram ToldProgram d
+  program_part (a_program d) h = h
+  program_part (an_entry t) h = tt
+  program_part (a_global g) h = tt
+  program_part (an_interface d) h = tt
+  program_part (a_class d) h = tt
+  program_part (a_function d) h = tt
+  program_part (a_configuration c) h = tt
 
   pub parts_are_told : PartsAreTold decls
   unfolding declarations
   parts_are_told = record {
     fields = λ n t gs e q. every_at ToldGroups (entries_in decls) n t (entries_told decls parts_told) e gs q;
     variables = λ c d e. every_means IsToldVariable (λ (v : DeclaredVariable). is_some v.kind ≡ true) (λ v h. h.0) _ (all.variables c d e);
-    programs = λ k d e. every_at ToldProgram (programs_in decls) k d (programs_told decls parts_told) e;
+    programs = λ k d e. every_at ToldProgram (programs_in decls) k d (all_programs decls ToldProgram (every_means ToldPart (OfProgram ToldProgram) program_part (declarations decls) parts_told)) e;
   }

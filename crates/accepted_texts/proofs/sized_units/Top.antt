@@ -1,5 +1,5 @@
 -- The checked program of a good unit is sized.
-use Rattle.std.proofs.Common.{◌≡◌, ◌≤◌, ◌<◌, ℕ, suc, ◌+◌, Bool, true, false, List, [], ◌∷◌, ◌++◌, map, reverse, length, Option, Some, None, refl, sym, ap, ◌∙◌, subst, arith, append-nil}
+use Rattle.std.proofs.Common.{◌≡◌, ◌≤◌, ◌<◌, ℕ, suc, ◌+◌, Bool, true, false, List, [], ◌∷◌, ◌++◌, map, length, Option, Some, None, refl, sym, ap, ◌∙◌, subst, arith}
 use Rattle.std.specs.Prelude.{if◌then◌else◌, filter, option_map, slice_get}
 use Rattle.std.specs.Option.{is_some}
 use Rattle.std.specs.List.{list_any}
@@ -21,7 +21,7 @@ use Rattle.st_rules.specs.Classes.{classes_in}
 use Rattle.st_rules.specs.Expressions.{told}
 use Rattle.st_rules.specs.Kinds.{boolean}
 use Rattle.st_rules.specs.Named.{first_place}
-use Rattle.st_rules.specs.Scope.{Scope, first_named, is_of_instance}
+use Rattle.st_rules.specs.Scope.{Scope, is_of_instance}
 use Rattle.st_unit_rules.specs.declared_names.Declarations.{Global, Region, of_global, of_instance, programs_in, configurations_in}
 use Rattle.st_unit_rules.specs.declared_names.UnitNames.{unit_names, unit_scope, program_scope}
 use Rattle.st_unit_rules.specs.declared_names.Variables.{Written, sections_written, is_kept_written}
@@ -32,7 +32,7 @@ use Rattle.st_unit_rules.specs.Limits.{sum_of, kinds_told, values_within, has_de
 use Rattle.st_unit_rules.specs.UnitRefusal.{BreaksNothing}
 use Rattle.st_unit_rules.specs.VariableRules.{of_globals, item_faults}
 use Rattle.st_values.specs.Program as seen
-use Rattle.st_values.specs.Program.{Variable, Class, class_at, chain_of, own_of, own_variables, class_variables}
+use Rattle.st_values.specs.Program.{Class, class_at, class_variables}
 use Rattle.st_values.specs.Value.{◌>>=◌}
 use Rattle.st_values.specs.Shape.{Shape, Elementary, Instance, region_shape, shape_by, shape_of, shape_within, fields_by}
 use Rattle.st_values.specs.View.{those, is_kept, variables_in, region_of, program_of}
@@ -44,34 +44,23 @@ use Rattle.resolution_order.specs.told_laws.ToldLaws.{Every}
 use Rattle.resolution_order.proofs.told_laws.LocalTelling.{local_laws}
 use Rattle.mem_layout.specs.Layout.{HasShape, AllHaveShapes}
 use Rattle.accepted_texts.proofs.unfolding_laws.CycleLaws.{none_in, variable_not_deep}
+use Rattle.accepted_texts.proofs.unfolding_laws.RegionLaws.{OfRegion, each_region}
 use Rattle.accepted_texts.proofs.unfolding_laws.GoodLaws.{GoodProgram, programs_good}
 use Rattle.accepted_texts.proofs.unfolding_laws.UnfoldingLaws.{unfolding_laws}
-use Rattle.accepted_texts.proofs.unfolding_laws.ListLaws.{every_at, every_mapped, every_means, there_below, if_there, if_found, each_get, from_long}
+use Rattle.accepted_texts.proofs.unfolding_laws.ListLaws.{every_at, every_one, every_mapped, every_means, there_below, if_there, if_found, each_get, from_long}
 use Rattle.accepted_texts.proofs.unfolding_laws.DeclaredLaws.{scope, members_say}
 use Rattle.accepted_texts.proofs.unfolding_laws.ChainLaws.{IsProgram, program_seen}
-use Rattle.accepted_texts.specs.sized_units.Sized.{values_of, IsSized}
+use Rattle.mem_layout.specs.loaded_meaning.Sized.{values_of, IsSized}
 use Rattle.accepted_texts.proofs.sized_units.Counted.{Sums, Keeps, Within, counted, fields_within}
 use Rattle.accepted_texts.proofs.sized_units.Few.{few_classes}
-use Rattle.accepted_texts.proofs.sized_units.Kept.{EnumerationsAreFew, PartsAreTold, kind_declared, members_kinds, turned, keeps}
+use Rattle.accepted_texts.proofs.sized_units.Kept.{EnumerationsAreFew, PartsAreTold, kind_declared, members_kinds, program_variables, keeps}
+use Rattle.accepted_texts.proofs.sized_units.Instances.{found_named}
 use Rattle.accepted_texts.proofs.sized_units.Parts.{part_small, few_elements}
 use Rattle.accepted_texts.proofs.sized_units.Regions.{regions_few, region_few, tasks_busy, region_runs, a_region}
 use Rattle.accepted_texts.proofs.sized_units.Sound.{Sound, ToldSound, written_sound, unit_sound}
 use Rattle.accepted_texts.proofs.sized_units.Depths.{Counts, counts, counts_below, few_dimensions}
-use Rattle.accepted_texts.proofs.sized_units.Globals.{OfRegion, of_regions}
 use Rattle.accepted_texts.proofs.sized_units.Shown.{Alike, alike_sums, kept_alike}
 use Rattle.accepted_texts.proofs.sized_units.Sizes.{size_within}
-
-found_named : {X : Type 0} (name_of : X → List ℕ) (name : List ℕ) (xs : List X) (k : ℕ) → first_place name (map name_of xs) ≡ Some k → (x : X) × (slice_get xs k ≡ Some x) × (first_named name_of name xs ≡ Some x)
-found_named name_of name [] k e = cc
-found_named {X = X} name_of name (x ∷ xs) k e = by (found_named name_of name xs) (same (name_of x) name) k e
-  where
-    by : ((j : ℕ) → first_place name (map name_of xs) ≡ Some j → (y : X) × (slice_get xs j ≡ Some y) × (first_named name_of name xs ≡ Some y)) → (b : Bool) → (k : ℕ)
-        → (if b then Some 0 else option_map suc (first_place name (map name_of xs))) ≡ Some k → (y : X) × (slice_get (x ∷ xs) k ≡ Some y) × ((if b then Some x else first_named name_of name xs) ≡ Some y)
-    by f true k q = let z : 0 ≡ k = cc in (x, ap (slice_get (x ∷ xs)) (sym z), refl)
-    by f false k q =
-        let m = mapped_some suc (first_place name (map name_of xs)) k q in
-        let r = f m.0 m.1 in
-        (r.0, ap (slice_get (x ∷ xs)) (sym m.2) ∙ r.1, r.2)
 
 -- what is not told counts for nothing
 told_values : (s : Scope) (vs : List DeclaredVariable) → Every (Counts s) (map kind_declared vs) → sum_of s (map (values_within s 66) (kinds_told s (map kind_declared vs))) ≤ sum_of s (map (λ (v : DeclaredVariable). counted_values s v.kind) vs)
@@ -131,15 +120,6 @@ module _ (decls : List (Decl ℕ)) (p : Program) (checked : IsChecked decls p) (
 
   -- ---- instances of programs
 
-  program_variables : (c : ℕ) (k : Class) → class_at pp c ≡ Some k → k.chain ≡ c ∷ [] → class_variables pp c ≡ k.own
-  unfolding class_variables
-  program_variables c k e q =
-      ap (λ o. own_variables pp (reverse (chain_of o))) e
-      ∙ ap (λ cs. own_variables pp (reverse cs)) q
-      ∙ turned pp c []
-      ∙ append-nil (own_of (class_at pp c))
-      ∙ ap own_of e
-
   -- the types of what a program keeps are within the limits
   program_counts : (k : ℕ) (x : ProgramDecl ℕ) → slice_get (programs_in decls) k ≡ Some x
       → Every (Counts (program_scope decls (unit_names decls) x)) (map kind_declared (filter is_of_instance (program_scope decls (unit_names decls) x).locals))
@@ -182,7 +162,7 @@ module _ (decls : List (Decl ℕ)) (p : Program) (checked : IsChecked decls p) (
       let a = then_some (class_at pp c) (λ z. fields_by f (class_variables pp c) >>= λ fields. Some (Instance c z.name fields)) sh h in
       let b = then_some (fields_by f (class_variables pp c)) (λ fields. Some (Instance c a.0.name fields)) sh a.2 in
       let q : Instance c a.0.name b.0 ≡ sh = let i = b.2 in cc in
-      let own : class_variables pp c ≡ those is_kept (variables_in y.sections) = program_variables c class at is.chain ∙ is.own in
+      let own : class_variables pp c ≡ those is_kept (variables_in y.sections) = program_variables pp c class at is.chain ∙ is.own in
       let sum = program_sums k x y there typed in
       let all = fields_within s pp (Sound decls) f F (λ t z g i. counted s pp (Sound decls) (program_keeps x) 65 t z g (shape_laws.deeper pp 64 t z i)) (those is_kept (variables_in y.sections)) b.0 sum.each (sym (ap (fields_by f) own) ∙ b.1) in
       let v = all.values in
@@ -211,13 +191,16 @@ module _ (decls : List (Decl ℕ)) (p : Program) (checked : IsChecked decls p) (
 
   -- ---- all regions
 
-  region_small : (u : Region) (d : RegionDecl) (sh : Shape) → OfRegion decls WithinLimits of_first u → TypedRegion decls u d → region_values decls u ≤ 131072 → shape_of pp d.kind ≡ Some sh → Small sh
+  region_small : (u : Region) (d : RegionDecl) (sh : Shape) → OfRegion (λ so constant item. WithinLimits item) (λ x. Unit {0}) u → TypedRegion decls u d → region_values decls u ≤ 131072 → shape_of pp d.kind ≡ Some sh → Small sh
   region_small (of_global w) d sh k h l e = global_small w d sh h k l e
   region_small (of_instance x) d sh k h l e = instance_small x d sh h l e
 
   record At (r : ℕ) (sh : Shape) : Type 0 where
     below : r < 1024
     small : Small sh
+
+  all_limited : Every (OfRegion (λ so constant item. WithinLimits item) (λ x. Unit {0})) (unit_regions decls)
+  all_limited = each_region decls (λ so constant item. WithinLimits item) (λ x. Unit {0}) of_first (λ x c h. every_one (λ (i : InstanceSpec). Unit {0}) (λ i. tt) c.instances) good
 
   at : (r : ℕ) (sh : Shape) → region_shape pp r ≡ Some sh → At r sh
   at r sh e =
@@ -228,7 +211,7 @@ module _ (decls : List (Decl ℕ)) (p : Program) (checked : IsChecked decls p) (
       let most = regions_few decls good in
       record {
         below = omega (arith, below, most);
-        small = region_small u.0 d.0 sh (every_at (OfRegion decls WithinLimits of_first) (unit_regions decls) r u.0 (of_regions decls WithinLimits of_first good) u.1) u.2 (region_few decls good r u.0 u.1) (ap (λ (x : seen.Region). shape_of pp x.variable.kind) d.2 ∙ a.2);
+        small = region_small u.0 d.0 sh (every_at (OfRegion (λ so constant item. WithinLimits item) (λ x. Unit {0})) (unit_regions decls) r u.0 all_limited u.1) u.2 (region_few decls good r u.0 u.1) (ap (λ (x : seen.Region). shape_of pp x.variable.kind) d.2 ∙ a.2);
       }
 
   -- ---- tasks

@@ -1,4 +1,4 @@
--- The checked program of a good unit that is formed is sized, and its initial values are in range.
+-- The checked program of a good unit that is formed is sized, its outputs share no bit, and its initial values are in range.
 use Rattle.std.proofs.Common.{◌≤◌, ℕ, List, arith}
 use Rattle.st_tree.specs.declared.program.Program.{Program}
 use Rattle.st_tree.specs.declared.unit.Decl.{Decl}
@@ -8,7 +8,10 @@ use Rattle.st_values.specs.View.{program_of}
 use Rattle.accepted_texts.specs.st_accepted.Accepted.{most_bytes}
 use Rattle.accepted_texts.specs.formed_units.Formed.{IsFormed}
 use Rattle.accepted_texts.proofs.formed_texts.Texts.{formed_text_laws}
-use Rattle.accepted_texts.specs.sized_units.Sized.{IsSized, SizedUnitLaws}
+use Rattle.accepted_texts.specs.sized_units.Sized.{SizedUnitLaws}
+use Rattle.mem_layout.specs.loaded_meaning.Sized.{IsSized}
+use Rattle.accepted_texts.proofs.sized_units.Bytes.{byte_small, covered_few}
+use Rattle.accepted_texts.proofs.sized_units.Outputs.{outputs_are}
 use Rattle.accepted_texts.proofs.sized_units.Starts.{starts_in_range}
 use Rattle.accepted_texts.proofs.sized_units.Told.{few_values, parts_are_told}
 use Rattle.accepted_texts.proofs.sized_units.Top.{sized}
@@ -19,6 +22,10 @@ good_sized most decls p l h good checked = sized decls p checked good.nothing (p
 pub sized_unit_laws : SizedUnitLaws
 sized_unit_laws = record {
   sized = good_sized;
+  outputs = λ most decls p h good checked. outputs_are most decls p h good.nothing checked;
   accepted = λ text p a. good_sized most_bytes a.whole.decls p (omega arith) (formed_text_laws.standard text a.whole a.is_unit) a.good a.checked;
+  accepted_outputs = λ text p a. outputs_are most_bytes a.whole.decls p (formed_text_laws.standard text a.whole a.is_unit) a.good.nothing a.checked;
   starts = starts_in_range;
+  covered_few = covered_few;
+  bytes = byte_small;
 }

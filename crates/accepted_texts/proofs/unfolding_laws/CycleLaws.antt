@@ -30,7 +30,7 @@ pub none_of_each : {X : Type 0} (f : X → Faults) (xs : List X) → flat_map f 
 none_of_each f [] e = tt
 none_of_each f (x ∷ xs) e = let n = none_in (f x) (flat_map f xs) e in (n.0, none_of_each f xs n.1)
 
-not_when : (b : Bool) (code : Code) (line : ℕ) → when b code line ≡ [] → b ≡ false
+pub not_when : (b : Bool) (code : Code) (line : ℕ) → when b code line ≡ [] → b ≡ false
 not_when true code line e = cc
 not_when false code line e = refl
 

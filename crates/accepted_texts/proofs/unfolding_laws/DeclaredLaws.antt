@@ -33,7 +33,7 @@ either_long n true ts us h k = h
 either_long n false ts us h k = k
 
 module _ (s : Scope) where
-  targets_long : (k l : ℕ) (ws : List Written) → length (member_targets s k l ws) ≡ length ws
+  pub targets_long : (k l : ℕ) (ws : List Written) → length (member_targets s k l ws) ≡ length ws
   targets_long k l [] = refl
   targets_long k l (w ∷ ws) =
       either_long (suc (length ws)) w.constant _ _ (ap suc (targets_long k l ws))
@@ -85,7 +85,7 @@ module _ (decls : List (Decl ℕ)) (locals : List DeclaredVariable) where
       let q : 0 + c ≡ c = omega arith in
       numbered_get (class_declared decls (unit_names decls)) 0 (classes_in decls) c d e ∙ ap (λ k. Some (class_declared decls (unit_names decls) k d)) q
 
-  fields_are : (n : ℕ) (h : IsStructure decls n) → field_list (parts_of scope n) ≡ flat_map (group_declared decls (unit_names decls)) h.groups
+  pub fields_are : (n : ℕ) (h : IsStructure decls n) → field_list (parts_of scope n) ≡ flat_map (group_declared decls (unit_names decls)) h.groups
   fields_are n h =
       ap field_list
       (parts_are scope n (parts_declared decls (unit_names decls) h.entry.body) (ap (λ (a : DeclaredNames). slice_get a.parts n) (sym (told_laws.settled decls)) ∙ parts_there n h.entry h.there)

@@ -41,7 +41,7 @@ none_deep s n [] h = tt
 none_deep s n (None ∷ os) h = (refl, none_deep s n os h)
 none_deep s n (Some t ∷ os) h = let b = neither (has_depth s n t) (list_any (has_depth s n) (kinds_told s os)) h in (b.0, none_deep s n os b.1)
 
-structure_typed : (decls : List (Decl ℕ)) (gs : List (FieldGroup ℕ)) (b : TypeBody Note) → TypedTypeBody decls (body.Structure gs) b
+pub structure_typed : (decls : List (Decl ℕ)) (gs : List (FieldGroup ℕ)) (b : TypeBody Note) → TypedTypeBody decls (body.Structure gs) b
     → (hs : List (FieldGroup Note)) × (b ≡ body.Structure hs) × Each (TypedGroup (unit_scope decls (unit_names decls))) gs hs
 structure_typed decls gs (body.Structure hs) h = (hs, refl, h)
 structure_typed decls gs (body.Alias t) h = absurd h

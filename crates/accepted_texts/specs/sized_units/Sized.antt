@@ -1,77 +1,34 @@
--- What a program lays out is small and few: sizes, counts, and programs of tasks.
-use Rattle.std.specs.Prelude.{◌≡◌, ◌≤◌, ◌<◌, ℕ, ◌+◌, ◌*◌, max, List, length, Some}
+-- What is promised of the sizes of a good unit's program, and of its outputs.
+use Rattle.std.specs.Prelude.{◌≤◌, ◌<◌, ℕ, List}
 use Rattle.st_tree.specs.declared.program.Program.{Program as CheckedProgram}
 use Rattle.st_tree.specs.declared.unit.Decl.{Decl}
 use Rattle.st_unit_rules.specs.Checked.{IsChecked}
 use Rattle.st_unit_rules.specs.RefusalLaws.{IsGood}
 use Rattle.st_values.specs.Program.{Program}
-use Rattle.st_values.specs.Shape.{Shape, Elementary, Enumeration, Reference, Interface, Array, Structure, Instance, Fields, no_fields, field_then, region_shape}
+use Rattle.st_values.specs.Value.{Store}
 use Rattle.st_values.specs.View.{program_of}
-use Rattle.st_meaning.specs.Enter.{programs_of}
+use Rattle.st_meaning.specs.ProcessImage.{located_of, covered, output_byte}
 use Rattle.st_meaning.specs.st_frame.Footprint.{Has}
+use Rattle.st_meaning.specs.st_frame.Good.{GoodOn}
 use Rattle.st_meaning.specs.st_frame.Promise.Programs.{ProgramIs}
 use Rattle.mem_layout.specs.store_bytes.InitialLaws.{StartsInRange}
-use Rattle.mem_layout.specs.store_bytes.PlaceLaws.{AreSmall}
-use Rattle.mem_layout.specs.Layout.{RegionsHaveShapes}
+use Rattle.mem_layout.specs.loaded_meaning.Sized.{IsSized}
+use Rattle.mem_layout.specs.loaded_meaning.Outputs.{OutputsAre}
 use Rattle.st_prelude.specs.Blocks.{standard_blocks}
 use Rattle.accepted_texts.specs.st_accepted.Accepted.{Accepted}
 use Rattle.accepted_texts.specs.formed_units.Formed.{IsFormed}
 
--- counted values: numbers, references, and each instance as one more; a structure is its fields, and one value where it has none
-abbrev mutual
-  pub values_of : Shape → ℕ
-  values_of (Elementary e) = 1
-  values_of (Enumeration name values) = 1
-  values_of (Reference c name) = 1
-  values_of (Interface k name) = 1
-  values_of (Array low n sh) = n * values_of sh
-  values_of (Structure name fs) = max 1 (all_values_of fs)
-  values_of (Instance c name fs) = 1 + all_values_of fs
-
-  pub all_values_of : Fields → ℕ
-  all_values_of no_fields = 0
-  all_values_of (field_then v sh fs) = values_of sh + all_values_of fs
-
--- enumerations and classes are so few that their numbers have 32 bits
-abbrev mutual
-  pub IsCounted : Shape → Type 0
-  IsCounted (Enumeration name values) = length values ≤ 4_294_967_296
-  IsCounted (Array low n sh) = IsCounted sh
-  IsCounted (Structure name fs) = AreCounted fs
-  IsCounted (Instance c name fs) = (c < 4_294_967_296) × AreCounted fs
-  IsCounted _ = Unit {0}
-
-  pub AreCounted : Fields → Type 0
-  AreCounted no_fields = Unit {0}
-  AreCounted (field_then v sh fs) = IsCounted sh × AreCounted fs
-
--- no array has more elements than a region has values
-abbrev mutual
-  pub HasFewElements : Shape → Type 0
-  HasFewElements (Array low n sh) = (n ≤ 131_072) × HasFewElements sh
-  HasFewElements (Structure name fs) = HaveFewElements fs
-  HasFewElements (Instance c name fs) = HaveFewElements fs
-  HasFewElements _ = Unit {0}
-
-  pub HaveFewElements : Fields → Type 0
-  HaveFewElements no_fields = Unit {0}
-  HaveFewElements (field_then v sh fs) = HasFewElements sh × HaveFewElements fs
-
-pub record IsSized (p : Program) : Type 0 where
-  -- each region has a shape, of which all parts are small
-  pub shapes : RegionsHaveShapes p
-  pub small : AreSmall (region_shape p)
-  pub few : (r : ℕ) (sh : Shape) → region_shape p r ≡ Some sh → r < 1_024
-  pub values : (r : ℕ) (sh : Shape) → region_shape p r ≡ Some sh → values_of sh ≤ 131_072
-  pub elements : (r : ℕ) (sh : Shape) → region_shape p r ≡ Some sh → HasFewElements sh
-  pub counted : (r : ℕ) (sh : Shape) → region_shape p r ≡ Some sh → IsCounted sh
-  -- each task has a program
-  pub busy : (t : ℕ) → t < length p.tasks → (r : ℕ) × Has (programs_of p t) r
-
 pub record SizedUnitLaws : Type 0 where
   -- the checked program of a good unit that is formed is sized
   pub sized : (most : ℕ) (decls : List (Decl ℕ)) (p : CheckedProgram) → most ≤ 4_294_967_296 → IsFormed most decls → IsGood decls → IsChecked decls p → IsSized (program_of p)
-  -- so is the program of each source that is accepted
+  -- its outputs end within the image and share no bit
+  pub outputs : (most : ℕ) (decls : List (Decl ℕ)) (p : CheckedProgram) → IsFormed most decls → IsGood decls → IsChecked decls p → OutputsAre (program_of p)
+  -- both hold of the program of each source that is accepted
   pub accepted : (text : List ℕ) (p : CheckedProgram) → Accepted standard_blocks text p → IsSized (program_of p)
-  -- and where it keeps its promise, the initial values of its regions are in range
+  pub accepted_outputs : (text : List ℕ) (p : CheckedProgram) → Accepted standard_blocks text p → OutputsAre (program_of p)
+  -- where it keeps its promise, the initial values of its regions are in range
   pub starts : (p : Program) → ProgramIs p → IsSized p → StartsInRange p
+  -- such outputs take at most 256 bytes
+  pub covered_few : (p : Program) → OutputsAre p → (fs : List ℕ) → covered (located_of p) fs ≤ 256
+  -- and in a store that is good in these regions, what they leave in each is a byte
+  pub bytes : (p : Program) → ProgramIs p → OutputsAre p → (fs : List ℕ) (s : Store) → GoodOn p (Has fs) s → (b : ℕ) → output_byte (located_of p) fs s b < 256

@@ -25,7 +25,7 @@ use Rattle.st_change.proofs.Stores.{store_laws}
 use Rattle.mem_layout.specs.store_bytes.Place.{size}
 use Rattle.plant_rules.specs.Meaning as words
 use Rattle.plant_rules.specs.Meaning.{Contents, bytes_at, Has, ChangesOnly, FitOn, Rising, Whole, Frames, last_moment}
-use Rattle.mem_layout.specs.loaded_meaning.Version.{Version, plain, reads_of, writes_of, store_of, encoded, images_of, image_there, rewritten, FitAt, IsSized, IsWritten, IsRight, cycle_of, left_after, meaning, LoadsNext, ChangesTo}
+use Rattle.mem_layout.specs.loaded_meaning.Version.{Version, plain, reads_of, writes_of, store_of, encoded, images_of, image_there, rewritten, FitAt, IsWritten, IsRight, cycle_of, left_after, meaning, LoadsNext, ChangesTo}
 use Rattle.mem_layout.proofs.loaded_meaning.Stores.{has?, not_among, among, region_has, member_same, fit_member, fit_good, whole_good, length_images, image_at, length_rewritten, rewritten_in, rewritten_out, encoded_fits}
 
 -- ---- the two words for 'has'

@@ -16,7 +16,8 @@ use Rattle.mem_layout.specs.store_bytes.Image.{image_of}
 use Rattle.mem_layout.specs.store_bytes.PlaceLaws.{AreSmall}
 use Rattle.plant_rules.specs.Meaning.{Contents, bytes_at, Has, Whole}
 use Rattle.mem_layout.specs.loaded_meaning.Decoded.{decoded}
-use Rattle.mem_layout.specs.loaded_meaning.Version.{decoded_in, stores_from, store_of, encoded, images_from, images_of, image_there, rewritten, IsCounted, FitAt, IsSized}
+use Rattle.mem_layout.specs.loaded_meaning.Sized.{IsSized}
+use Rattle.mem_layout.specs.loaded_meaning.Version.{decoded_in, stores_from, store_of, encoded, images_from, images_of, image_there, rewritten, FitAt}
 use Rattle.mem_layout.proofs.loaded_meaning.Decoding.{spells_decoded}
 use Rattle.mem_layout.proofs.loaded_meaning.Encoding.{image_spells, image_fits}
 

@@ -1,19 +1,16 @@
 -- What a loaded version of a program means: its cycles and changes on the stores that its regions' bytes spell.
-use Rattle.std.specs.Prelude.{◌≡◌, ◌≤◌, ◌<◌, ℕ, zero, suc, ◌+◌, ◌^◌, ℤ, pos, Bool, true, false, if◌then◌else◌, List, [], ◌∷◌, length, Option, Some, None, Result, Ok, Err, slice_get, slice_index_or, ◌⊎◌}
+use Rattle.std.specs.Prelude.{◌≡◌, ◌<◌, ℕ, suc, ◌+◌, pos, if◌then◌else◌, List, [], ◌∷◌, length, Option, Some, None, Result, Ok, Err, slice_index_or, ◌⊎◌}
 use Rattle.plc_text.specs.declared.fault.FaultKind.{FaultKind}
 use Rattle.plc_text.specs.declared.refusal.Refusal.{Refusal}
 use Rattle.cycle_journal.specs.declared.entry.CycleReply.{CycleReply}
 use Rattle.cycle_journal.specs.declared.entry.CycleReply.TheVariants as reply
-use Rattle.st_types.specs.declared.elem.Elem.TheVariants.{Udint, Ulint}
-use Rattle.st_types.specs.Range.{Fits}
 use Rattle.st_tree.specs.declared.program.Program.{Program as CheckedProgram}
 use Rattle.st_rules.specs.Chains.{is_among}
 use Rattle.st_values.specs.Program.{Region, Program}
 use Rattle.st_values.specs.View.{program_of}
 use Rattle.st_values.specs.Value.{Value, number, Store, no_members, member_then, member}
-use Rattle.st_values.specs.Shape.{Shape, Elementary, Enumeration, Reference, Interface, Array, Structure, Instance, Fields, no_fields, field_then, region_shape}
+use Rattle.st_values.specs.Shape.{Shape, region_shape}
 use Rattle.st_meaning.specs.Cycle.{cycle}
-use Rattle.st_meaning.specs.Enter.{programs_of}
 use Rattle.st_meaning.specs.st_frame.Footprint.{Has, Writes, IsFootprint}
 use Rattle.st_meaning.specs.st_frame.Good.{Fit}
 use Rattle.st_meaning.specs.st_frame.Promise.Programs.{ProgramIs}
@@ -24,9 +21,9 @@ use Rattle.st_change.specs.StoreLaws.{HooksAre}
 use Rattle.mem_layout.specs.store_bytes.Place.{size}
 use Rattle.mem_layout.specs.store_bytes.Spells.{Spells}
 use Rattle.mem_layout.specs.store_bytes.Image.{image_of}
-use Rattle.mem_layout.specs.store_bytes.PlaceLaws.{AreSmall}
 use Rattle.plant_rules.specs.Meaning.{Contents, bytes_at, Rising, Meaning}
 use Rattle.mem_layout.specs.loaded_meaning.Decoded.{decoded}
+use Rattle.mem_layout.specs.loaded_meaning.Sized.{IsSized}
 
 -- a version: its number, its checked program, and for each task the regions that it touches and those that it writes
 pub record Version : Type 0 where
@@ -81,19 +78,6 @@ module _ (p : Program) where
 
   -- ---- what is right
 
-  -- enumerations and classes are so few that their numbers have 32 and 64 bits
-  abbrev mutual
-    pub IsCounted : Shape → Type 0
-    IsCounted (Enumeration name values) = length values ≤ 2 ^ 32
-    IsCounted (Array low n sh) = IsCounted sh
-    IsCounted (Structure name fs) = AreCounted fs
-    IsCounted (Instance c name fs) = (c < 2 ^ 32) × AreCounted fs
-    IsCounted _ = Unit {0}
-
-    pub AreCounted : Fields → Type 0
-    AreCounted no_fields = Unit {0}
-    AreCounted (field_then v sh fs) = IsCounted sh × AreCounted fs
-
   -- the bytes spell a value of the region that is good
   pub record FitAt (r : ℕ) (bytes : List ℕ) : Type 0 where
     pub shape : Shape
@@ -102,14 +86,6 @@ module _ (p : Program) where
     pub value : Value
     pub spells : Spells (region_shape p) shape value bytes 0
     pub fits : Fit p shape value
-
--- what an accepted program keeps beside its promise
-pub record IsSized (p : Program) : Type 0 where
-  pub small : AreSmall (region_shape p)
-  pub few : (r : ℕ) (sh : Shape) → region_shape p r ≡ Some sh → r < 2147483647
-  pub counted : (r : ℕ) (sh : Shape) → region_shape p r ≡ Some sh → IsCounted p sh
-  -- each task has a program
-  pub busy : (t : ℕ) → t < length p.tasks → (r : ℕ) × Has (programs_of p t) r
 
 -- the list has just what the task writes
 pub record IsWritten (p : Program) (task : ℕ) (ws : List ℕ) : Type 0 where
