@@ -1,3 +1,2 @@
 pub mod Members
 pub mod Private
-pub use Rattle.check_routines.specs.method_rules.Bodies

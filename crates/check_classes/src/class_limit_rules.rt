@@ -4,4 +4,3 @@ mod counts;
 mod limits;
 
 pub use limits::class_limit_fault;
-pub use symbol_table;

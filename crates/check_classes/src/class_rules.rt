@@ -3,6 +3,5 @@
 mod classes;
 mod parts;
 
-pub use crate::class_limit_rules::symbol_table;
 pub use classes::{ClassSide, check_class};
 pub use parts::CheckedClass;

@@ -3,5 +3,4 @@
 mod interfaces;
 mod prototypes;
 
-pub use check_routines;
 pub use interfaces::{CheckedInterface, check_interface};

@@ -8,9 +8,7 @@ pub mod interface_rules;
 pub mod member_rules;
 
 pub use base_rules::{CheckedBase, CheckedInterfaces, check_base, check_interfaces};
-pub use check_routines;
 pub use class_limit_rules::class_limit_fault;
 pub use class_rules::{CheckedClass, ClassSide, check_class};
 pub use interface_rules::{CheckedInterface, check_interface};
 pub use member_rules::{CheckedMembers, check_members};
-pub use symbol_table;

@@ -2,5 +2,4 @@
 
 mod members;
 
-pub use check_routines;
 pub use members::{CheckedMembers, check_members};

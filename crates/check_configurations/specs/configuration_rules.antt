@@ -1,3 +1,2 @@
 pub mod Configurations
 pub mod Private
-pub use Rattle.check_configurations.specs.program_instances.Programs

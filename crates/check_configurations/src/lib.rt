@@ -10,4 +10,3 @@ pub use checked_tasks::{check_tasks, setting_laws};
 pub use config_rules::tasks_and_instances;
 pub use configuration_rules::{CheckedConfiguration, check_configuration};
 pub use program_instances::{CheckedInstance, UnitPrograms, check_instance};
-pub use symbol_table;

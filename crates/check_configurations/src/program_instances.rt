@@ -6,4 +6,3 @@ mod programs;
 
 pub use instances::{CheckedInstance, check_instance};
 pub use programs::UnitPrograms;
-pub use symbol_table;

@@ -1,12 +1,3 @@
 pub mod Functions
 pub mod Programs
 pub mod Private
-pub use Rattle.symbol_table.specs.unit_tables.Scopes
-pub use Rattle.check_routines.specs.routine_rules.Parts
-pub use Rattle.check_routines.specs.declared.routine_rules.routines.CheckedRoutine
-pub use Rattle.check_routines.specs.declared.routine_rules.variables.CheckedVariables
-pub use Rattle.check_routines.specs.routine_rules.Variables
-pub use Rattle.check_routines.specs.routine_rules.Routines
-pub use Rattle.check_routines.specs.routine_rules.Bodies
-pub use Rattle.check_routines.specs.routine_rules.CheckedSection
-pub use Rattle.check_routines.specs.routine_rules.Sections

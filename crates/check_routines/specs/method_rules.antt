@@ -1,11 +1,3 @@
 pub mod Methods
 pub mod Prototypes
 pub mod Private
-pub use Rattle.check_routines.specs.declared.function_rules.functions.CheckedFunction
-pub use Rattle.check_routines.specs.declared.function_rules.programs.CheckedProgram
-pub use Rattle.check_routines.specs.function_rules.Functions
-pub use Rattle.check_routines.specs.function_rules.Programs
-pub use Rattle.check_routines.specs.function_rules.Bodies
-pub use Rattle.check_routines.specs.function_rules.Scopes
-pub use Rattle.check_routines.specs.function_rules.CheckedSection
-pub use Rattle.check_routines.specs.function_rules.Sections

@@ -3,7 +3,5 @@
 mod depths;
 mod variables;
 
-pub use check_declared_variables;
-pub use check_limits;
 pub use depths::{items_depth_fault, result_depth_fault, type_depth_fault};
 pub use variables::{body_depth_fault, kept_depth_fault};

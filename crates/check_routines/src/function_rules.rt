@@ -4,9 +4,6 @@ mod functions;
 mod parts;
 mod programs;
 
-pub use crate::routine_rules::{check_declared_variables, check_names};
 pub use functions::{CheckedFunction, check_function};
 pub use parts::parts_of;
 pub use programs::{CheckedProgram, check_program};
-pub use symbol_table;
-pub use symbol_table::type_resolution;

@@ -6,9 +6,6 @@ pub mod function_rules;
 pub mod method_rules;
 pub mod routine_rules;
 
-pub use check_declared_variables;
-pub use check_declared_variables::check_names;
-pub use check_limits;
 pub use depth_rules::{
     body_depth_fault, items_depth_fault, kept_depth_fault, result_depth_fault, type_depth_fault,
 };
@@ -20,5 +17,3 @@ pub use routine_rules::{
     CheckedRoutine, CheckedVariables, FoundBody, UnitParts, body_found, check_routine,
     check_variables,
 };
-pub use symbol_table;
-pub use symbol_table::type_resolution;

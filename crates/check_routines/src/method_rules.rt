@@ -3,6 +3,5 @@
 mod methods;
 mod prototypes;
 
-pub use crate::function_rules::{check_declared_variables, symbol_table};
 pub use methods::{CheckedMethod, check_method};
 pub use prototypes::{CheckedPrototype, check_prototype};

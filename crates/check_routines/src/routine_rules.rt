@@ -6,10 +6,7 @@ mod parts;
 mod routines;
 mod variables;
 
-pub use crate::depth_rules::check_limits;
 pub use bodies::{FoundBody, body_found};
-pub use check_declared_variables;
-pub use check_declared_variables::check_names;
 pub use parts::UnitParts;
 pub use routines::{CheckedRoutine, check_routine};
 pub use variables::{CheckedVariables, check_variables};

@@ -16,8 +16,8 @@ use Rattle.st_unit_rules.specs.declared_names.WrittenTypes.{type_written}
 use Rattle.st_unit_rules.specs.DeclarationRules.{unit, item_too_deep}
 use Rattle.st_unit_rules.specs.Limits.{most_steps, variable_too_deep}
 use Rattle.st_unit_rules.specs.VariableRules.{of_globals, item_faults}
-use Rattle.check_declared_variables.specs.variable_rules.CheckedType.{CheckedType}
-use Rattle.check_declared_variables.specs.variable_rules.Types.{ChecksType}
+use Rattle.check_declared_variables.specs.declared.type_rules.types.CheckedType.{CheckedType}
+use Rattle.check_declared_variables.specs.type_rules.Types.{ChecksType}
 use Rattle.check_limits.specs.declared.type_sizes.sizes.TypeSizes.{TypeSizes}
 use Rattle.check_limits.specs.type_sizes.Sizes.{Measures}
 use Rattle.check_declared_variables.specs.declared.variable_rules.items.CheckedItem.{CheckedItem}

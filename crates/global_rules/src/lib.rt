@@ -9,4 +9,3 @@ mod shared;
 pub use globals::{CheckedRegions, check_global};
 pub use sections::check_globals;
 pub use shared::{SharedItem, check_shared};
-pub use symbol_table;

@@ -18,7 +18,7 @@ use Rattle.check_calls.specs.Parameters.{parameters_of}
 use Rattle.st_unit_rules.specs.DeclarationRules.{body_locals}
 use Rattle.st_unit_rules.specs.Limits.{too_many_methods, too_many_parameters, too_many_locals, too_many_bases, variable_values, all_values, sum_of}
 use Rattle.check_limits.specs.type_sizes.Size.{capped}
-use Rattle.check_routines.proofs.depth_rules.Parts.{joined}
+use Rattle.check_initial_values.proofs.Parts.{joined}
 use Rattle.check_classes.specs.class_limit_rules.Private.Counts.{counted}
 
 -- ---- methods

@@ -23,7 +23,7 @@ use Rattle.st_unit_rules.specs.DeclarationRules.{class_too_deep, item_too_deep, 
 use Rattle.st_unit_rules.specs.Limits.{is_too_deep}
 use Rattle.check_limits.specs.declared.type_sizes.sizes.TypeSizes.{TypeSizes}
 use Rattle.check_limits.specs.type_sizes.Sizes.{Measures}
-use Rattle.check_routines.proofs.depth_rules.Parts.{joined}
+use Rattle.check_initial_values.proofs.Parts.{joined}
 use Rattle.check_classes.specs.class_limit_rules.Private.Counts.{counted}
 use Rattle.check_classes.specs.class_limit_rules.Private.Limits.{depths}
 

@@ -24,7 +24,7 @@ use Rattle.st_unit_rules.specs.DeclarationRules.{base_not_found, class_declarati
 use Rattle.st_unit_rules.specs.NameRules.{member_name_faults, word_twice}
 use Rattle.st_unit_rules.specs.VariableRules.{sections_faults}
 use Rattle.st_unit_rules.specs.Worth.{same_worth}
-use Rattle.check_classes.proofs.base_rules.Parts.{joined}
+use Rattle.check_initial_values.proofs.Parts.{joined}
 use Rattle.check_classes.proofs.member_rules.MemberLaws.{none_behind}
 use Rattle.check_classes.specs.declared.class_rules.parts.Broken.{Broken}
 use Rattle.check_classes.specs.declared.class_rules.parts.CheckedClass.{CheckedClass}

@@ -27,8 +27,8 @@ use Rattle.st_unit_rules.specs.VariableRules.{Home}
 use Rattle.st_unit_rules.specs.Worth.{same_worth}
 use Rattle.check_classes.specs.base_rules.Used.{ChecksBase, ChecksInterfaces}
 use Rattle.check_classes.specs.member_rules.Members.{ChecksMembers}
-use Rattle.check_classes.specs.member_rules.Bodies.{FindsBody}
-use Rattle.check_classes.specs.class_limit_rules.Scopes.{scope_in}
+use Rattle.check_routines.specs.routine_rules.Bodies.{FindsBody}
+use Rattle.symbol_table.specs.unit_tables.Scopes.{scope_in}
 use Rattle.check_classes.specs.declared.class_rules.parts.Broken.{Broken}
 use Rattle.check_classes.specs.declared.class_rules.parts.Trees.{Trees}
 use Rattle.check_classes.specs.class_rules.Private.Classes.{BrokenBy, TreesFound}

@@ -20,9 +20,9 @@ use Rattle.st_unit_rules.specs.Checked.{Each, TypedMember}
 use Rattle.st_unit_rules.specs.DeclarationRules.{method_faults}
 use Rattle.st_unit_rules.specs.VariableRules.{Home, section_faults, sections_faults}
 pub use Rattle.check_routines.proofs.method_rules.MethodLaws.{none_behind}
-use Rattle.check_routines.specs.method_rules.CheckedSection.{CheckedSection}
-use Rattle.check_routines.specs.method_rules.Sections.{ChecksSection}
-use Rattle.check_routines.specs.method_rules.Scopes.{scope_in}
+use Rattle.check_declared_variables.specs.declared.variable_rules.sections.CheckedSection.{CheckedSection}
+use Rattle.check_declared_variables.specs.variable_rules.Sections.{ChecksSection}
+use Rattle.symbol_table.specs.unit_tables.Scopes.{scope_in}
 use Rattle.check_classes.specs.declared.member_rules.members.CheckedMember.{CheckedMember}
 use Rattle.check_classes.specs.declared.member_rules.members.CheckedMembers.{CheckedMembers}
 use Rattle.check_routines.specs.declared.method_rules.methods.CheckedMethod.{CheckedMethod}

@@ -12,8 +12,7 @@ ghost use Rattle.check_limits.specs.type_sizes.Sizes.{Measures};
 ghost use Rattle.check_classes.specs.class_limit_rules.Private.Counts.{counted};
 
 use check_calls::block_parameters;
-use check_limits::{TypeSizes, too_many_bases};
-use check_routines::check_limits::{add_body_values, methods_fault, too_many_locals};
+use check_limits::{TypeSizes, add_body_values, methods_fault, too_many_bases, too_many_locals};
 use class_tables::ClassTables;
 use name_resolution::Scope;
 use plc_text::{Code, NoMemory};

@@ -9,9 +9,8 @@ ghost use Rattle.check_limits.specs.type_sizes.Sizes.{Measures};
 ghost use Rattle.check_classes.specs.class_limit_rules.Private.Limits.{depths};
 
 use crate::class_limit_rules::counts::counts_fault;
-use check_limits::TypeSizes;
+use check_limits::{TypeSizes, class_too_deep};
 use check_routines::body_depth_fault;
-use check_routines::check_limits::class_too_deep;
 use declared_graph::DeclaredGraph;
 use name_resolution::Scope;
 use plc_text::{Code, NoMemory};

@@ -6,18 +6,17 @@ ghost use Rattle.st_rules.specs.Faults.{least};
 ghost use Rattle.st_unit_rules.specs.DeclarationRules as rules;
 ghost use Rattle.check_names.specs.member_names.Known.{Knows};
 ghost use Rattle.default_values.specs.numbered_signatures.Signatures.{Tells};
-ghost use Rattle.check_classes.specs.class_limit_rules.Scopes.{scope_in};
+ghost use Rattle.symbol_table.specs.unit_tables.Scopes.{scope_in};
 ghost use Rattle.check_classes.specs.class_rules.Classes.{ChecksClass};
 ghost use Rattle.check_classes.specs.class_rules.Private.Classes.{BrokenBy, TreesFound};
 
 use crate::base_rules::{check_base, check_interfaces};
 use crate::class_limit_rules::class_limit_fault;
-use crate::class_limit_rules::symbol_table::unit_tables::UnitTables;
 use crate::class_rules::parts::{Broken, CheckedClass, Trees, class_of, heading_of, home};
 use crate::member_rules::check_members;
-use crate::member_rules::check_routines::body_found;
 use check_names::member_names::{MemberNames, member_name_fault};
 use check_names::name_spaces::word_twice;
+use check_routines::body_found;
 use declared_graph::inner_cycles_fault;
 use default_values::numbered_signatures::NumberedSignatures;
 use name_resolution::Scope;
@@ -25,6 +24,7 @@ use plc_text::{Code, NoMemory};
 use st_tree::ClassDecl;
 use st_unit_rules::declaration_list::written_members;
 use std::alloc::Global;
+use symbol_table::unit_tables::UnitTables;
 
 /// What classes are checked by, beside the tables of the unit.
 #[derive(Clone, Copy)]

@@ -8,7 +8,7 @@ ghost use Rattle.check_classes.specs.class_rules.Private.Parts.{IsClass, IsHeadi
 
 use crate::base_rules::{CheckedBase, CheckedInterfaces};
 use crate::member_rules::CheckedMembers;
-use crate::member_rules::check_routines::FoundBody;
+use check_routines::FoundBody;
 use plc_text::{Code, Items, NoMemory};
 use section_rules::Home;
 use st_rules::earlier;

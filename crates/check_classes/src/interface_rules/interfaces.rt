@@ -9,11 +9,11 @@ use crate::base_rules::{CheckedInterfaces, check_interfaces};
 use crate::interface_rules::prototypes::{CheckedPrototypes, check_prototypes};
 use check_limits::{InterfaceHeights, methods_fault};
 use check_names::name_rules::prototype_name_fault;
-use check_routines::symbol_table::unit_tables::UnitTables;
 use plc_text::{Code, NoMemory};
 use st_rules::earlier;
 use st_tree::{InterfaceDecl, Name, Note};
 use std::alloc::Global;
+use symbol_table::unit_tables::UnitTables;
 
 /// What is found out about an interface.
 #[derive(Drop)]

@@ -4,12 +4,12 @@ ghost use Rattle.std.specs.Prelude.{IfOk};
 ghost use Rattle.check_classes.specs.interface_rules.Prototypes.{ChecksPrototypes};
 ghost use Rattle.check_classes.specs.interface_rules.Private.Prototypes.{AddsPrototype, NoPrototypes};
 
-use check_routines::symbol_table::unit_tables::UnitTables;
 use check_routines::{CheckedPrototype, check_prototype};
 use plc_text::{Code, Items, NoMemory};
 use st_rules::earlier;
 use st_tree::{Note, Prototype};
 use std::alloc::Global;
+use symbol_table::unit_tables::UnitTables;
 
 /// What is found out about methods of an interface.
 #[derive(Drop)]

@@ -2,12 +2,11 @@
 
 ghost use Rattle.std.specs.Prelude.{◌≡◌, Some, false, [], IfOk};
 ghost use Rattle.section_rules.specs.Home.{home_of};
-ghost use Rattle.check_routines.specs.method_rules.Scopes.{scope_in};
+ghost use Rattle.symbol_table.specs.unit_tables.Scopes.{scope_in};
 ghost use Rattle.check_classes.specs.member_rules.Members.{ChecksMembers};
 ghost use Rattle.check_classes.specs.member_rules.Private.Members.{AddsMember, ChecksMember, IsMethodMember, IsSectionMember, NoMembers};
 
-use check_routines::check_declared_variables::{CheckedSection, check_section};
-use check_routines::symbol_table::unit_tables::UnitTables;
+use check_declared_variables::{CheckedSection, check_section};
 use check_routines::{CheckedMethod, check_method};
 use name_resolution::Scope;
 use plc_text::{Code, Items, NoMemory};
@@ -15,6 +14,7 @@ use section_rules::Home;
 use st_rules::earlier;
 use st_tree::{Member, Note};
 use std::alloc::Global;
+use symbol_table::unit_tables::UnitTables;
 
 /// What is found out about the members of a class.
 #[derive(Drop)]

@@ -13,7 +13,6 @@ ghost use Rattle.check_configurations.specs.configuration_rules.Configurations.{
 use crate::config_rules::tasks_and_instances;
 use crate::configuration_rules::instances::{CheckedInstances, check_instances};
 use crate::program_instances::UnitPrograms;
-use crate::program_instances::symbol_table::unit_tables::UnitTables;
 use check_names::name_rules::configuration_name_fault;
 use check_names::name_spaces::HeldNames;
 use check_regions::TakenRegions;
@@ -21,6 +20,7 @@ use plc_text::{Code, Items, NoMemory};
 use st_rules::{earlier, when};
 use st_tree::{Configuration, RegionDecl};
 use std::alloc::Global;
+use symbol_table::unit_tables::UnitTables;
 
 /// What is found out about a configuration.
 #[derive(Drop)]

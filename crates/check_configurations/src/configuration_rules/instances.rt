@@ -3,13 +3,13 @@
 ghost use Rattle.std.specs.Prelude.{◌≡◌, [], true, IfOk, OnOk};
 ghost use Rattle.check_configurations.specs.configuration_rules.Private.Instances.{Adds, Checks};
 
-use crate::program_instances::symbol_table::unit_tables::UnitTables;
 use crate::program_instances::{CheckedInstance, UnitPrograms, check_instance};
 use check_regions::TakenRegions;
 use plc_text::{Code, Items, NoMemory};
 use st_rules::earlier;
 use st_tree::{InstanceSpec, RegionDecl};
 use std::alloc::Global;
+use symbol_table::unit_tables::UnitTables;
 
 /// What is found out about instances.
 #[derive(Drop)]

@@ -14,8 +14,8 @@ use plc_text::{NoMemory, Text};
 use st_names::Names;
 use st_tree::{Decl, Name, ProgramDecl};
 use std::alloc::Global;
-use symbol_table::type_resolution::told_locals::Declaring;
 use symbol_table::unit_tables::UnitTables;
+use type_resolution::told_locals::Declaring;
 
 /// The programs of a unit in the order of the text, with the first place of each name.
 #[derive(Drop)]

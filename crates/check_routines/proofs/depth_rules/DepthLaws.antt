@@ -15,8 +15,8 @@ use Rattle.st_unit_rules.specs.DeclarationRules.{item_too_deep, items_in, result
 use Rattle.st_unit_rules.specs.Limits.{most_steps, variable_too_deep}
 use Rattle.check_limits.specs.declared.limit_rules.depths.Within.{Within}
 use Rattle.check_limits.specs.limit_rules.Depths.{depth_faults}
-use Rattle.check_limits.specs.limit_rules.TypeSizes.{TypeSizes}
-use Rattle.check_limits.specs.limit_rules.Sizes.{Measures}
+use Rattle.check_limits.specs.declared.type_sizes.sizes.TypeSizes.{TypeSizes}
+use Rattle.check_limits.specs.type_sizes.Sizes.{Measures}
 use Rattle.check_declared_variables.specs.declared.type_rules.types.CheckedType.{CheckedType}
 use Rattle.check_declared_variables.specs.type_rules.Types.{ChecksType}
 use Rattle.check_routines.specs.depth_rules.Private.Depths.{section_too_deep}

@@ -16,7 +16,7 @@ use Rattle.st_unit_rules.specs.Checked.{Each, IfThere, TypedBody, TypedSection, 
 use Rattle.st_unit_rules.specs.DeclarationRules.{routine_faults, function_faults}
 use Rattle.st_unit_rules.specs.NameRules.{local_name_faults}
 use Rattle.st_unit_rules.specs.VariableRules.{of_routine}
-use Rattle.check_routines.proofs.routine_rules.Parts.{joined}
+use Rattle.check_initial_values.proofs.Parts.{joined}
 use Rattle.check_routines.specs.declared.routine_rules.routines.CheckedRoutine.{CheckedRoutine}
 use Rattle.check_routines.specs.routine_rules.Routines.{ChecksRoutine}
 use Rattle.symbol_table.specs.unit_tables.Scopes.{scope_in}

@@ -25,9 +25,9 @@ use Rattle.st_unit_rules.specs.DeclarationRules.{item_too_deep, program_limits, 
 use Rattle.st_unit_rules.specs.Limits.{most_steps, too_deep}
 use Rattle.st_unit_rules.specs.NameRules.{space_faults, section_names}
 use Rattle.st_unit_rules.specs.VariableRules.{of_program, sections_faults}
-use Rattle.check_routines.proofs.routine_rules.Parts.{joined}
-use Rattle.check_routines.specs.routine_rules.CheckedSections.{CheckedSections}
-use Rattle.check_routines.specs.routine_rules.Sections.{ChecksSections}
+use Rattle.check_initial_values.proofs.Parts.{joined}
+use Rattle.check_declared_variables.specs.declared.variable_rules.sections.CheckedSections.{CheckedSections}
+use Rattle.check_declared_variables.specs.variable_rules.Sections.{ChecksSections}
 use Rattle.check_routines.specs.declared.routine_rules.bodies.FoundBody.{FoundBody}
 use Rattle.check_routines.specs.routine_rules.Bodies.{FindsBody}
 use Rattle.symbol_table.specs.unit_tables.Scopes.{scope_in}

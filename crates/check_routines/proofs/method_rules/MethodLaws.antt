@@ -18,12 +18,12 @@ use Rattle.st_unit_rules.specs.Checked.{Each, IfThere, TypedBody, TypedSection, 
 use Rattle.st_unit_rules.specs.DeclarationRules.{routine_faults}
 use Rattle.st_unit_rules.specs.NameRules.{local_name_faults, word_twice}
 use Rattle.st_unit_rules.specs.VariableRules.{of_routine, of_prototype}
-use Rattle.check_routines.proofs.function_rules.Parts.{joined}
-use Rattle.check_routines.specs.function_rules.CheckedRoutine.{CheckedRoutine}
-use Rattle.check_routines.specs.function_rules.CheckedVariables.{CheckedVariables}
-use Rattle.check_routines.specs.function_rules.Routines.{ChecksRoutine}
-use Rattle.check_routines.specs.function_rules.Variables.{ChecksVariables}
-use Rattle.check_routines.specs.function_rules.Scopes.{scope_in}
+use Rattle.check_initial_values.proofs.Parts.{joined}
+use Rattle.check_routines.specs.declared.routine_rules.routines.CheckedRoutine.{CheckedRoutine}
+use Rattle.check_routines.specs.declared.routine_rules.variables.CheckedVariables.{CheckedVariables}
+use Rattle.check_routines.specs.routine_rules.Routines.{ChecksRoutine}
+use Rattle.check_routines.specs.routine_rules.Variables.{ChecksVariables}
+use Rattle.symbol_table.specs.unit_tables.Scopes.{scope_in}
 pub use Rattle.check_routines.proofs.function_rules.FunctionLaws.{none_behind}
 use Rattle.check_routines.specs.declared.method_rules.methods.CheckedMethod.{CheckedMethod}
 use Rattle.check_routines.specs.declared.method_rules.prototypes.CheckedPrototype.{CheckedPrototype}

@@ -27,7 +27,7 @@ use Rattle.st_unit_rules.specs.Limits.{too_many_parameters, too_many_locals, all
 use Rattle.st_unit_rules.specs.VariableRules.{Home, sections_faults, result_faults}
 use Rattle.check_limits.specs.declared.type_sizes.sizes.TypeSizes.{TypeSizes}
 use Rattle.check_limits.specs.type_sizes.Sizes.{Measures}
-use Rattle.check_declared_variables.proofs.variable_rules.Parts.{joined}
+use Rattle.check_initial_values.proofs.Parts.{joined}
 use Rattle.check_declared_variables.specs.declared.variable_rules.results.CheckedResult.{CheckedResult}
 use Rattle.check_declared_variables.specs.declared.variable_rules.sections.CheckedSections.{CheckedSections}
 use Rattle.check_declared_variables.specs.variable_rules.Results.{ChecksResult}

@@ -5,13 +5,13 @@ ghost use Rattle.st_rules.specs.Faults.{least};
 ghost use Rattle.st_rules.specs.Scope as scope;
 ghost use Rattle.st_unit_rules.specs.declared_names.Declarations.{declarations};
 ghost use Rattle.st_unit_rules.specs.DeclarationRules as rules;
-ghost use Rattle.check_limits.specs.limit_rules.Sizes.{Measures};
+ghost use Rattle.check_limits.specs.type_sizes.Sizes.{Measures};
 ghost use Rattle.check_limits.specs.limit_rules.Depths.{depth_faults};
 ghost use Rattle.check_routines.specs.depth_rules.Private.Depths.{section_too_deep};
 
 use check_declared_variables::check_type;
-use check_limits::declared_graph::DeclaredGraph;
 use check_limits::{TypeSizes, Within, too_deep};
+use declared_graph::DeclaredGraph;
 use name_resolution::Scope;
 use plc_text::{Code, NoMemory};
 use st_rules::{earlier, is_external};

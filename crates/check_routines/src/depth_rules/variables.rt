@@ -8,12 +8,12 @@ ghost use Rattle.st_unit_rules.specs.declared_names.Variables.{is_kept_written, 
 ghost use Rattle.st_unit_rules.specs.declaration_list.Written.{global_of, names_in_sections};
 ghost use Rattle.st_unit_rules.specs.DeclarationRules as rules;
 ghost use Rattle.st_unit_rules.specs.Limits as limits;
-ghost use Rattle.check_limits.specs.limit_rules.Sizes.{Measures};
+ghost use Rattle.check_limits.specs.type_sizes.Sizes.{Measures};
 ghost use Rattle.check_routines.specs.depth_rules.Private.Variables.{in_program, with_first};
 
 use crate::depth_rules::depths::type_depth_fault;
-use check_limits::declared_graph::DeclaredGraph;
 use check_limits::{TypeSizes, Within};
+use declared_graph::DeclaredGraph;
 use name_resolution::Scope;
 use plc_text::{Code, NoMemory};
 use st_rules::earlier;

@@ -6,16 +6,16 @@ ghost use Rattle.check_routines.specs.function_rules.Functions.{ChecksFunction};
 ghost use Rattle.check_routines.specs.function_rules.Private.Functions.{IsFunction, FunctionIn};
 
 use crate::function_rules::parts::parts_of;
-use crate::routine_rules::check_names::name_rules::local_name_fault;
 use crate::routine_rules::{CheckedRoutine, UnitParts, check_routine};
+use check_names::name_rules::local_name_fault;
 use name_resolution::Scope;
 use plc_text::{Code, NoMemory};
 use section_rules::Home;
 use st_rules::{DeclaredVariable, earlier};
 use st_tree::{FunctionDecl, Name, Note};
 use std::alloc::Global;
-use symbol_table::type_resolution::told_locals::Declaring;
 use symbol_table::unit_tables::UnitTables;
+use type_resolution::told_locals::Declaring;
 
 /// What is found out about a function.
 #[derive(Drop)]

@@ -8,9 +8,9 @@ ghost use Rattle.check_routines.specs.function_rules.Private.Programs.{cycles_an
 
 use crate::depth_rules::{body_depth_fault, kept_depth_fault};
 use crate::function_rules::parts::parts_of;
-use crate::routine_rules::check_declared_variables::{CheckedSections, check_sections};
-use crate::routine_rules::check_names::name_rules::space_fault;
 use crate::routine_rules::{FoundBody, UnitParts, body_found};
+use check_declared_variables::{CheckedSections, check_sections};
+use check_names::name_rules::space_fault;
 use check_names::name_spaces::section_names;
 use declared_graph::inner_cycles_fault;
 use name_resolution::Scope;
@@ -20,8 +20,8 @@ use st_rules::earlier;
 use st_tree::{Name, Note, ProgramDecl};
 use st_unit_rules::declaration_list::written_names;
 use std::alloc::Global;
-use symbol_table::type_resolution::told_locals::Declaring;
 use symbol_table::unit_tables::UnitTables;
+use type_resolution::told_locals::Declaring;
 
 /// What is found out about a program.
 #[derive(Drop)]

@@ -1,15 +1,13 @@
 //! Methods of classes and function blocks.
 
 ghost use Rattle.std.specs.Prelude.{◌≡◌, IfOk};
-ghost use Rattle.check_routines.specs.function_rules.Parts.{Serves};
+ghost use Rattle.check_routines.specs.routine_rules.Parts.{Serves};
 ghost use Rattle.check_routines.specs.method_rules.Methods.{ChecksMethod};
 ghost use Rattle.check_routines.specs.method_rules.Private.Methods.{IsMethod, MethodIn};
 
-use crate::function_rules::check_names::name_rules::local_name_fault;
 use crate::function_rules::parts_of;
-use crate::function_rules::symbol_table::unit_tables::UnitTables;
-use crate::function_rules::type_resolution::told_locals::Declaring;
 use crate::routine_rules::{CheckedRoutine, UnitParts, check_routine};
+use check_names::name_rules::local_name_fault;
 use check_names::name_spaces::word_twice;
 use name_resolution::Scope;
 use plc_text::{Code, Items, NoMemory};
@@ -17,6 +15,8 @@ use section_rules::Home;
 use st_rules::{DeclaredVariable, earlier};
 use st_tree::{Method, Modifier, Name, Note};
 use std::alloc::Global;
+use symbol_table::unit_tables::UnitTables;
+use type_resolution::told_locals::Declaring;
 
 /// What is found out about a method.
 #[derive(Drop)]

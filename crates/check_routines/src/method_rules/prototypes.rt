@@ -1,19 +1,19 @@
 //! Methods of interfaces, which have no body.
 
 ghost use Rattle.std.specs.Prelude.{◌≡◌, IfOk};
-ghost use Rattle.check_routines.specs.function_rules.Parts.{Serves};
+ghost use Rattle.check_routines.specs.routine_rules.Parts.{Serves};
 ghost use Rattle.check_routines.specs.method_rules.Prototypes.{ChecksPrototype};
 ghost use Rattle.check_routines.specs.method_rules.Private.Prototypes.{IsPrototype, PrototypeIn};
 
 use crate::function_rules::parts_of;
-use crate::function_rules::symbol_table::unit_tables::UnitTables;
-use crate::function_rules::type_resolution::told_locals::Declaring;
 use crate::routine_rules::{CheckedVariables, UnitParts, check_variables};
 use name_resolution::Scope;
 use plc_text::{Code, NoMemory};
 use section_rules::Home;
 use st_tree::{Name, Note, Prototype};
 use std::alloc::Global;
+use symbol_table::unit_tables::UnitTables;
+use type_resolution::told_locals::Declaring;
 
 /// What is found out about a method of an interface.
 #[derive(Drop)]

@@ -5,9 +5,9 @@ ghost use Rattle.st_rules.specs.Faults.{least};
 ghost use Rattle.check_routines.specs.routine_rules.Parts.{Serves};
 ghost use Rattle.check_routines.specs.routine_rules.Private.Limits.{cycles_and_limits};
 
-use crate::depth_rules::check_limits::parameters_fault;
 use crate::depth_rules::{items_depth_fault, result_depth_fault};
 use crate::routine_rules::parts::UnitParts;
+use check_limits::parameters_fault;
 use declared_graph::inner_cycles_fault;
 use name_resolution::Scope;
 use plc_text::{Code, NoMemory};

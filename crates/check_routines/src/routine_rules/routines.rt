@@ -6,10 +6,10 @@ ghost use Rattle.check_routines.specs.routine_rules.Parts.{Serves};
 ghost use Rattle.check_routines.specs.routine_rules.Routines.{ChecksRoutine};
 ghost use Rattle.check_routines.specs.routine_rules.Private.Routines.{IsRoutine};
 
-use crate::depth_rules::check_limits::locals_fault;
 use crate::routine_rules::bodies::{FoundBody, body_found};
 use crate::routine_rules::parts::UnitParts;
 use crate::routine_rules::variables::{CheckedVariables, check_variables};
+use check_limits::locals_fault;
 use name_resolution::Scope;
 use plc_text::{Code, Items, NoMemory};
 use section_rules::Home;

@@ -15,7 +15,7 @@ use st_rules::{Parameter, copied, is_constant, is_parameter_sort};
 use st_tree::{Init, Item, Name, Section, SectionSort};
 use st_types::StType;
 use std::alloc::Global;
-use symbol_table::type_resolution::written_types::type_written;
+use type_resolution::written_types::type_written;
 
 /// The most steps of containment that a type may take.
 const MOST: u32 = 66;

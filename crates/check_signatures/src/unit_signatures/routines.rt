@@ -14,8 +14,8 @@ use plc_text::NoMemory;
 use st_rules::{ResultType, Signature};
 use st_tree::{Name, Section, TypeSpec};
 use std::alloc::Global;
-use symbol_table::type_resolution::told_locals::Declaring;
-use symbol_table::type_resolution::written_types::type_written;
+use type_resolution::told_locals::Declaring;
+use type_resolution::written_types::type_written;
 
 fn result_in(
     alloc: Global,

@@ -12,7 +12,7 @@ use name_resolution::Scope;
 use plc_text::NoMemory;
 use st_tree::{Decl, FieldGroup, TypeBody, TypeDecl};
 use std::alloc::Global;
-use symbol_table::type_resolution::written_types::type_written;
+use type_resolution::written_types::type_written;
 
 fn group<'a>(
     alloc: Global,

@@ -5,7 +5,7 @@ use Rattle.st_tree.specs.declared.unit.Decl.{Decl}
 use Rattle.st_rules.specs.Faults.{least, earlier}
 use Rattle.st_unit_rules.specs.declared_names.WrittenTypes.{type_written}
 use Rattle.st_unit_rules.specs.DeclarationRules.{unit, item_too_deep}
-use Rattle.check_declared_variables.specs.variable_rules.CheckedType.{CheckedType}
+use Rattle.check_declared_variables.specs.declared.type_rules.types.CheckedType.{CheckedType}
 use Rattle.check_declared_variables.specs.declared.variable_rules.items.CheckedItem.{CheckedItem}
 use Rattle.global_rules.specs.declared.shared.SharedItem.{SharedItem}
 

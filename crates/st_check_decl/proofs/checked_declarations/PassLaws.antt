@@ -20,10 +20,10 @@ use Rattle.check_classes.specs.declared.class_rules.parts.CheckedClass.{CheckedC
 use Rattle.check_classes.specs.class_rules.Classes.{ChecksClass}
 use Rattle.check_declared_variables.specs.declared.entry_rules.entries.CheckedEntry.{CheckedEntry}
 use Rattle.check_declared_variables.specs.entry_rules.Entries.{ChecksEntry, entry_faults}
-use Rattle.check_classes.specs.interface_rules.CheckedFunction.{CheckedFunction}
-use Rattle.check_classes.specs.interface_rules.CheckedProgram.{CheckedProgram}
-use Rattle.check_classes.specs.interface_rules.Functions.{ChecksFunction}
-use Rattle.check_classes.specs.interface_rules.Programs.{ChecksProgram}
+use Rattle.check_routines.specs.declared.function_rules.functions.CheckedFunction.{CheckedFunction}
+use Rattle.check_routines.specs.declared.function_rules.programs.CheckedProgram.{CheckedProgram}
+use Rattle.check_routines.specs.function_rules.Functions.{ChecksFunction}
+use Rattle.check_routines.specs.function_rules.Programs.{ChecksProgram}
 use Rattle.check_classes.specs.declared.interface_rules.interfaces.CheckedInterface.{CheckedInterface}
 use Rattle.check_classes.specs.interface_rules.Interfaces.{ChecksInterface}
 use Rattle.st_unit_rules.specs.passing_laws.Passing.{At, faults_here, placed_at, with_any}

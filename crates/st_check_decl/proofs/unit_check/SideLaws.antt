@@ -7,12 +7,12 @@ use Rattle.st_tree.specs.declared.unit.Unit.{Unit as ProgramText}
 use Rattle.st_rules.specs.Classes.{classes_in}
 use Rattle.check_names.specs.member_names.Known.{Knows}
 use Rattle.default_values.specs.numbered_signatures.Signatures.{Tells}
-use Rattle.check_configurations.specs.configuration_rules.Programs.{HasPrograms}
+use Rattle.check_configurations.specs.program_instances.Programs.{HasPrograms}
 use Rattle.st_unit_rules.specs.Checked.{IsChecked}
 use Rattle.st_unit_rules.specs.DeclarationRules.{signatures}
 use Rattle.st_unit_rules.specs.RefusalLaws.{IsGood}
 use Rattle.st_unit_rules.specs.UnitRefusal.{UnitRefusal}
-use Rattle.global_rules.specs.Scopes.{scope_in}
+use Rattle.symbol_table.specs.unit_tables.Scopes.{scope_in}
 use Rattle.st_check_decl.specs.declared.unit_check.side.CheckSide.{CheckSide}
 use Rattle.st_check_decl.specs.unit_check.Checking.{OnRefused}
 use Rattle.st_check_decl.specs.unit_check.Private.Side.{ServesUnit}

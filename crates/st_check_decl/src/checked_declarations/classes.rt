@@ -12,13 +12,13 @@ ghost use Rattle.st_unit_rules.specs.passing_laws.Passing.{At, faults_here, with
 ghost use Rattle.st_check_decl.specs.checked_declarations.SoFar.{Breaks, Passed};
 
 use crate::checked_declarations::so_far::{Bad, CheckedSoFar, settle};
-use check_classes::symbol_table::unit_tables::UnitTables;
 use check_classes::{CheckedClass, ClassSide, check_class};
 use plc_text::Code;
 use st_rules::{earlier, when};
 use st_tree::ClassDecl;
 use st_unit_rules::declaration_list::Declared;
 use std::alloc::Global;
+use symbol_table::unit_tables::UnitTables;
 
 /// A unit has at most so many classes and function blocks.
 const CLASSES: u32 = 1_024;

@@ -7,13 +7,13 @@ ghost use Rattle.st_unit_rules.specs.passing_laws.Passing.{At, faults_here, with
 ghost use Rattle.st_check_decl.specs.checked_declarations.SoFar.{Breaks, Passed};
 
 use crate::checked_declarations::so_far::{Bad, CheckedSoFar, settle};
-use check_classes::symbol_table::unit_tables::UnitTables;
 use check_declared_variables::{CheckedEntry, check_entry};
 use name_resolution::Scope;
 use st_rules::earlier;
 use st_tree::TypeDecl;
 use st_unit_rules::declaration_list::Declared;
 use std::alloc::Global;
+use symbol_table::unit_tables::UnitTables;
 
 /// Checks an entry of TYPE behind what was checked, in the scope of the unit.
 pub fn pass_entry(

@@ -6,14 +6,12 @@ ghost use Rattle.st_unit_rules.specs.passing_laws.Passing.{At, faults_here, with
 ghost use Rattle.st_check_decl.specs.checked_declarations.SoFar.{Breaks, Passed};
 
 use crate::checked_declarations::so_far::{Bad, CheckedSoFar, settle};
-use check_classes::check_routines::{
-    CheckedFunction, CheckedProgram, check_function, check_program,
-};
-use check_classes::symbol_table::unit_tables::UnitTables;
+use check_routines::{CheckedFunction, CheckedProgram, check_function, check_program};
 use st_rules::earlier;
 use st_tree::{FunctionDecl, ProgramDecl};
 use st_unit_rules::declaration_list::Declared;
 use std::alloc::Global;
+use symbol_table::unit_tables::UnitTables;
 
 /// Checks a function behind what was checked.
 pub fn pass_function(

@@ -21,10 +21,10 @@ use check_configurations::UnitPrograms;
 use check_limits::InterfaceHeights;
 use check_names::member_names::MemberNames;
 use check_signatures::unit_signatures::unit_signatures;
-use global_rules::symbol_table::unit_tables::UnitTables;
 use plc_text::Denied;
 use st_tree::{Decl, Program, Unit};
 use std::alloc::Global;
+use symbol_table::unit_tables::UnitTables;
 
 /// Checks all declarations of a unit.
 fn pass_unit(alloc: Global, side: &CheckSide<'_, '_>, decls: &[Decl<u32>]) -> Result<Progress, Bad>

@@ -3,8 +3,8 @@
 use crate::checked_declarations::ClassSide;
 use check_configurations::UnitPrograms;
 use check_limits::InterfaceHeights;
-use global_rules::symbol_table::unit_tables::UnitTables;
 use name_resolution::Scope;
+use symbol_table::unit_tables::UnitTables;
 
 /// What a unit is checked by: its tables, the scope of the unit, its programs, and what classes and interfaces need.
 #[derive(Clone, Copy)]

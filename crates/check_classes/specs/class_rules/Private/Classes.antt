@@ -15,7 +15,7 @@ use Rattle.st_unit_rules.specs.NameRules.{member_name_faults, word_twice}
 use Rattle.st_unit_rules.specs.Worth.{same_worth}
 use Rattle.check_classes.specs.base_rules.Used.{ChecksBase, ChecksInterfaces}
 use Rattle.check_classes.specs.member_rules.Members.{ChecksMembers}
-use Rattle.check_classes.specs.member_rules.Bodies.{FindsBody}
+use Rattle.check_routines.specs.routine_rules.Bodies.{FindsBody}
 use Rattle.check_classes.specs.declared.class_rules.parts.Broken.{Broken}
 use Rattle.check_classes.specs.declared.class_rules.parts.Trees.{Trees}
 

@@ -9,7 +9,7 @@ use Rattle.st_unit_rules.specs.declared_names.UnitNames.{class_scope, unit_names
 use Rattle.st_unit_rules.specs.Checked.{TypedMember}
 use Rattle.st_unit_rules.specs.DeclarationRules.{method_faults}
 use Rattle.st_unit_rules.specs.VariableRules.{Home, section_faults}
-use Rattle.check_routines.specs.method_rules.CheckedSection.{CheckedSection}
+use Rattle.check_declared_variables.specs.declared.variable_rules.sections.CheckedSection.{CheckedSection}
 use Rattle.check_classes.specs.declared.member_rules.members.CheckedMember.{CheckedMember}
 use Rattle.check_classes.specs.declared.member_rules.members.CheckedMembers.{CheckedMembers}
 use Rattle.check_routines.specs.declared.method_rules.methods.CheckedMethod.{CheckedMethod}

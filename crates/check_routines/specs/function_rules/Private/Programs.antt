@@ -15,7 +15,7 @@ use Rattle.st_unit_rules.specs.DeclarationRules.{program_limits}
 use Rattle.st_unit_rules.specs.NameRules.{space_faults, section_names}
 use Rattle.st_unit_rules.specs.VariableRules.{of_program, sections_faults}
 use Rattle.check_routines.specs.declared.routine_rules.bodies.FoundBody.{FoundBody}
-use Rattle.check_routines.specs.routine_rules.CheckedSections.{CheckedSections}
+use Rattle.check_declared_variables.specs.declared.variable_rules.sections.CheckedSections.{CheckedSections}
 use Rattle.check_routines.specs.declared.function_rules.programs.CheckedProgram.{CheckedProgram}
 
 abbrev pub cycles_and_limits : List (Decl ℕ) → Scope → ProgramDecl ℕ → Faults

@@ -11,7 +11,7 @@ use Rattle.st_unit_rules.specs.Checked.{Each, IfThere, TypedBody, TypedSection, 
 use Rattle.st_unit_rules.specs.DeclarationRules.{routine_faults}
 use Rattle.st_unit_rules.specs.NameRules.{local_name_faults, word_twice}
 use Rattle.st_unit_rules.specs.VariableRules.{of_routine}
-use Rattle.check_routines.specs.function_rules.CheckedRoutine.{CheckedRoutine}
+use Rattle.check_routines.specs.declared.routine_rules.routines.CheckedRoutine.{CheckedRoutine}
 use Rattle.check_routines.specs.declared.method_rules.methods.CheckedMethod.{CheckedMethod}
 
 pub record IsMethod (c : CheckedMethod) (heading : ℕ) (written : List Modifier) (own : Name) (words : Option (Code × ℕ)) (found : CheckedRoutine) : Type 0 where

@@ -7,8 +7,8 @@ use Rattle.st_rules.specs.Faults.{least}
 use Rattle.st_rules.specs.Scope.{Scope}
 use Rattle.st_unit_rules.specs.Checked.{Each, IfThere, TypedSection, TypedSpec}
 use Rattle.st_unit_rules.specs.VariableRules.{of_prototype}
-use Rattle.check_routines.specs.function_rules.CheckedVariables.{CheckedVariables}
-use Rattle.check_routines.specs.function_rules.Variables.{variables_faults}
+use Rattle.check_routines.specs.declared.routine_rules.variables.CheckedVariables.{CheckedVariables}
+use Rattle.check_routines.specs.routine_rules.Variables.{variables_faults}
 use Rattle.check_routines.specs.declared.method_rules.prototypes.CheckedPrototype.{CheckedPrototype}
 
 pub record IsPrototype (c : CheckedPrototype) (heading : ℕ) (own : Name) (found : CheckedVariables) : Type 0 where

@@ -3,7 +3,7 @@ use Rattle.std.specs.Prelude.{◌≡◌}
 use Rattle.st_rules.specs.Classes.{classes_in}
 use Rattle.check_names.specs.member_names.Known.{Knows}
 use Rattle.default_values.specs.numbered_signatures.Signatures.{Tells}
-use Rattle.check_configurations.specs.configuration_rules.Programs.{HasPrograms}
+use Rattle.check_configurations.specs.program_instances.Programs.{HasPrograms}
 use Rattle.st_unit_rules.specs.DeclarationRules.{unit, signatures}
 use Rattle.st_check_decl.specs.declared.unit_check.side.CheckSide.{CheckSide}
 

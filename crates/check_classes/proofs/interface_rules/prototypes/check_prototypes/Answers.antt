@@ -1,6 +1,6 @@
 use Rattle.st_unit_rules.specs.Checked.{TypedPrototype}
 use Rattle.st_unit_rules.specs.DeclarationRules.{prototype_faults}
-use Rattle.check_classes.proofs.base_rules.EachLaws.{each_begun, each_next, each_least, each_trees}
+use Rattle.check_declared_variables.proofs.variable_rules.EachLaws.{each_begun, each_next, each_least, each_trees}
 use Rattle.check_classes.proofs.interface_rules.PrototypeLaws.{prototypes_ended}
 use Rattle.check_classes.proofs.interface_rules.prototypes.check_prototypes.Goals as goal
 

@@ -1,5 +1,5 @@
 use Rattle.section_rules.specs.Home.{home_of}
-use Rattle.check_routines.proofs.method_rules.EachLaws.{each_begun, each_next, each_least, each_trees}
+use Rattle.check_declared_variables.proofs.variable_rules.EachLaws.{each_begun, each_next, each_least, each_trees}
 use Rattle.check_classes.specs.member_rules.Private.Members.{member_sections, member_methods, TypedIfGood}
 use Rattle.check_classes.proofs.member_rules.MemberLaws.{members_ended}
 use Rattle.check_classes.proofs.member_rules.members.check_members.Goals as goal

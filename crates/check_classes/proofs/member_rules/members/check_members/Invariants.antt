@@ -1,5 +1,5 @@
 use Rattle.section_rules.specs.Home.{home_of}
-use Rattle.check_routines.proofs.method_rules.EachLaws.{EachTo}
+use Rattle.check_declared_variables.proofs.variable_rules.EachLaws.{EachTo}
 use Rattle.check_classes.specs.member_rules.Private.Members.{member_sections, member_methods, TypedIfGood}
 use Rattle.check_classes.proofs.member_rules.members.check_members.Given as goal
 
