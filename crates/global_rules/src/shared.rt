@@ -66,7 +66,6 @@ pub fn check_shared(
     requires { s.now ≡ rules.unit tables.now.decls }
     ensures { IfOk result (λ c. ChecksShared c tables.now.decls section.now item.now) }
 {
-    let kind = check_type(alloc, s, &item.kind)?;
     let found = check_item(
         alloc,
         s,
@@ -76,5 +75,6 @@ pub fn check_shared(
         section,
         item,
     )?;
+    let kind = check_type(alloc, s, &item.kind)?;
     Ok(shared_of(kind, found, tables, item))
 }
