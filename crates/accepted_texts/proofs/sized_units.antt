@@ -17,4 +17,7 @@ pub mod Addresses
 pub mod Bits
 pub mod Outputs
 pub mod Bytes
+pub mod Scopes
+pub mod Locals
+pub mod Bodies
 mod Whole

@@ -1,6 +1,6 @@
 -- The variables with addresses of a checked program have just the bits that the rules compare, so its outputs share none.
-use Rattle.std.proofs.Common.{◌≡◌, ◌≤◌, ◌<◌, ℕ, zero, suc, ◌+◌, ◌*◌, Bool, true, false, List, [], ◌∷◌, ◌++◌, map, length, Option, Some, None, refl, sym, ap, ◌∙◌, subst, inl, inr, arith, ltb-false}
-use Rattle.std.specs.Prelude.{◌⊎◌, if◌then◌else◌, not, ◌&&◌, ◌||◌, nat_eq, nat_le, nat_lt, filter, flat_map, option_map, slice_get}
+use Rattle.std.proofs.Common.{◌≡◌, ◌≤◌, ◌<◌, ℕ, suc, ◌+◌, ◌*◌, Bool, true, false, List, [], ◌∷◌, ◌++◌, map, length, Option, Some, None, refl, sym, ap, ◌∙◌, subst, inl, inr, arith, ltb-false}
+use Rattle.std.specs.Prelude.{◌⊎◌, if◌then◌else◌, not, ◌&&◌, nat_eq, nat_le, nat_lt, filter, flat_map, option_map, slice_get}
 use Rattle.std.proofs.lemmas.List.{map-append}
 use Rattle.st_types.specs.declared.elem.Elem.{Elem}
 use Rattle.st_types.specs.declared.elem.Elem.TheVariants as kind
@@ -13,29 +13,26 @@ use Rattle.st_tree.specs.declared.address.Area.{Area}
 use Rattle.st_tree.specs.declared.address.Area.TheVariants as area
 use Rattle.st_tree.specs.declared.address.Width.{Width}
 use Rattle.st_tree.specs.declared.address.Width.TheVariants as width
-use Rattle.st_tree.specs.declared.configuration.Configuration.{Configuration}
 use Rattle.st_tree.specs.declared.configuration.InstanceSpec.{InstanceSpec}
 use Rattle.st_tree.specs.declared.declaration.Item.{Item}
 use Rattle.st_tree.specs.declared.declaration.ProgramDecl.{ProgramDecl}
 use Rattle.st_tree.specs.declared.declaration.Section.{Section}
 use Rattle.st_tree.specs.declared.declaration.SectionSort.{SectionSort}
 use Rattle.st_tree.specs.declared.declaration.SectionSort.TheVariants as sort
-use Rattle.st_tree.specs.declared.name.Name.{Name}
 use Rattle.st_tree.specs.declared.path.Step.TheVariants as step
 use Rattle.st_tree.specs.declared.program.Program.{Program}
 use Rattle.st_tree.specs.declared.program.RegionDecl.{RegionDecl}
 use Rattle.st_tree.specs.declared.unit.Decl.{Decl}
 use Rattle.st_rules.specs.Classes.{classes_in}
 use Rattle.st_rules.specs.Expressions.{told}
-use Rattle.st_rules.specs.Named.{first_place}
 use Rattle.st_rules.specs.Scope.{Scope, is_instance_sort}
-use Rattle.st_rules.proofs.Booleans.{false≢true, both, and-both, or-neither}
+use Rattle.st_rules.proofs.Booleans.{false≢true, or-neither}
 use Rattle.st_unit_rules.specs.Addresses.{Bits, bits_at, bits_of, may_be_located, variable_bits, all_bits}
-use Rattle.st_unit_rules.specs.declared_names.Declarations.{Declaration, an_entry, a_global, an_interface, a_class, a_function, a_program, a_configuration, Placed, Region, of_global, of_instance, declarations, programs_in}
+use Rattle.st_unit_rules.specs.declared_names.Declarations.{Declaration, an_entry, a_global, an_interface, a_class, a_function, a_program, a_configuration, Region, of_global, of_instance, declarations, programs_in}
 use Rattle.st_unit_rules.specs.declared_names.UnitNames.{unit_names, program_scope}
-use Rattle.st_unit_rules.specs.declared_names.Variables.{Written, item_written, section_written, sections_written, is_kept_written, declares_constants}
+use Rattle.st_unit_rules.specs.declared_names.Variables.{Written, item_written, section_written, sections_written, is_kept_written}
 use Rattle.st_unit_rules.specs.declared_names.WrittenTypes.{type_written}
-use Rattle.st_unit_rules.specs.Checked.{Each, TypedClass, TypedProgram, TypedRegion, GlobalRegion, InstanceRegion, IsChecked, unit_regions, program_type}
+use Rattle.st_unit_rules.specs.Checked.{Each, TypedClass, TypedProgram, TypedRegion, GlobalRegion, InstanceRegion, IsChecked, unit_regions}
 use Rattle.st_unit_rules.specs.DeclarationRules.{program_bits, region_bits}
 use Rattle.st_unit_rules.specs.DeclarationRules as rules
 use Rattle.st_unit_rules.specs.UnitRefusal.{BreaksNothing}
@@ -54,12 +51,12 @@ use Rattle.accepted_texts.proofs.unfolding_laws.ListLaws.{every_append, every_on
 use Rattle.accepted_texts.proofs.unfolding_laws.ChainLaws.{program_seen}
 use Rattle.accepted_texts.proofs.unfolding_laws.RegionLaws.{OfRegion, OfGlobal, OfProgram, all_programs, each_program, all_regions, each_region}
 use Rattle.accepted_texts.specs.formed_units.Formed as formed
-use Rattle.accepted_texts.specs.formed_units.Formed.{IfThere, FormedAddress, FormedItem, FormedVars, FormedProgram, IsFormed}
+use Rattle.accepted_texts.specs.formed_units.Formed.{IfThere, FormedAddress, FormedItem, FormedVars, IsFormed}
 use Rattle.accepted_texts.proofs.formed_texts.Units.{over, FormedPart, all_parts}
 use Rattle.accepted_texts.proofs.sized_units.Addresses.{IsPlaced, ItemPlaced, WrittenPlaced, unit, global_placed, ProgramPlaced, program_placed}
 use Rattle.accepted_texts.proofs.sized_units.Bits.{bit_in, bit_once}
 use Rattle.accepted_texts.proofs.sized_units.Depths.{type_is}
-use Rattle.accepted_texts.proofs.sized_units.Instances.{found_named, names_of_programs, IsFound, instances_found}
+use Rattle.accepted_texts.proofs.sized_units.Instances.{found_named, IsFound, instances_found}
 use Rattle.accepted_texts.proofs.sized_units.Kept.{program_variables}
 use Rattle.accepted_texts.proofs.sized_units.Variables.{IsOf, kept_of}
 

@@ -43,7 +43,7 @@ and_false false b h e = cc
 pub below_bound : (n m : ℕ) → n ≤ m → nat_eq n m ≡ false → n < m
 below_bound n m h e = dite (ℕ_discrete n m) (λ q. absurd (differ_from_test n m e q)) (λ q. omega (arith, h, q))
 
-sum_append : (s : Scope) (xs ys : List ℕ) → sum_of s (xs ++ ys) ≡ sum_of s xs + sum_of s ys
+pub sum_append : (s : Scope) (xs ys : List ℕ) → sum_of s (xs ++ ys) ≡ sum_of s xs + sum_of s ys
 sum_append s [] ys = omega arith
 sum_append s (x ∷ xs) ys = let k = sum_append s xs ys in omega (arith, k)
 

@@ -30,7 +30,7 @@ abbrev pub is_variable : Written → Bool
 is_variable w = not w.constant && not (is_external w.sort)
 
 -- a test behind another one
-test_twice : {X : Type 0} (a b c : X → Bool) → ((x : X) → (a x && b x) ≡ c x) → (xs : List X) → filter b (filter a xs) ≡ filter c xs
+pub test_twice : {X : Type 0} (a b c : X → Bool) → ((x : X) → (a x && b x) ≡ c x) → (xs : List X) → filter b (filter a xs) ≡ filter c xs
 test_twice a b c e [] = refl
 test_twice a b c e (x ∷ xs) = by (a x) (b x) (c x) (e x) refl (test_twice a b c e xs)
   where
@@ -90,7 +90,7 @@ module _ (s : Scope) where
       let test : is_variable (f n) ≡ false = ap (λ z. not z && not (is_external (f n).sort)) (fc n) ∙ (ap (λ z. not c && not (is_external z)) (fs n) ∙ e) in
       ap (λ b. if b then f n ∷ filter is_variable (map f ns) else filter is_variable (map f ns)) test ∙ no_names c so e ns f fs fc
 
-  no_items : (x : Section ℕ) → (not (declares_constants x) && not (is_external x.sort)) ≡ false → (items : List (Item ℕ)) → filter is_variable (flat_map (item_written x) items) ≡ []
+  pub no_items : (x : Section ℕ) → (not (declares_constants x) && not (is_external x.sort)) ≡ false → (items : List (Item ℕ)) → filter is_variable (flat_map (item_written x) items) ≡ []
   no_items x e [] = refl
   no_items x e (a ∷ items) =
       filter-append is_variable (item_written x a) (flat_map (item_written x) items)

@@ -39,7 +39,7 @@ module _ (s : Scope) where
   -- ---- variables as they are declared
 
   abbrev pub IsRow : Written → DeclaredVariable → Type 0
-  IsRow w v = (v.name ≡ w.name.text) × (v.constant ≡ w.constant) × (v.kind ≡ type_written s w.item.kind) × (w.constant ≡ true → v.target ≡ constant_target (constant_of s w))
+  IsRow w v = (v.name ≡ w.name.text) × (v.constant ≡ w.constant) × (v.kind ≡ type_written s w.item.kind) × (w.constant ≡ true → v.target ≡ constant_target (constant_of s w)) × (v.sort ≡ w.sort)
 
   abbrev pub AreRows : List Written → List DeclaredVariable → Type 0
   AreRows [] [] = Unit {0}
@@ -50,10 +50,10 @@ module _ (s : Scope) where
   RowsOf w ws ts = AreRows (w ∷ ws) (declared_each s ts (w ∷ ws))
 
   value-row : (w : Written) → IsRow w (declared_with s (constant_target (constant_of s w)) w)
-  value-row w = (refl, refl, refl, λ e. refl)
+  value-row w = (refl, refl, refl, λ e. refl, refl)
 
   plain-row : (w : Written) (t : Target) → w.constant ≡ false → IsRow w (declared_with s t w)
-  plain-row w t f = (refl, refl, refl, λ e. absurd (false≢true (sym f ∙ e)))
+  plain-row w t f = (refl, refl, refl, λ e. absurd (false≢true (sym f ∙ e)), refl)
 
   pub members-rows : (k l : ℕ) (ws : List Written) → AreRows ws (declared_each s (member_targets s k l ws) ws)
   members-rows k l [] = tt

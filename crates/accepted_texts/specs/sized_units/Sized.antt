@@ -17,6 +17,7 @@ use Rattle.mem_layout.specs.loaded_meaning.Outputs.{OutputsAre}
 use Rattle.st_prelude.specs.Blocks.{standard_blocks}
 use Rattle.accepted_texts.specs.st_accepted.Accepted.{Accepted}
 use Rattle.accepted_texts.specs.formed_units.Formed.{IsFormed}
+use Rattle.accepted_texts.specs.sized_units.Locals.{LocalsAre}
 
 pub record SizedUnitLaws : Type 0 where
   -- the checked program of a good unit that is formed is sized
@@ -26,6 +27,9 @@ pub record SizedUnitLaws : Type 0 where
   -- both hold of the program of each source that is accepted
   pub accepted : (text : List ℕ) (p : CheckedProgram) → Accepted standard_blocks text p → IsSized (program_of p)
   pub accepted_outputs : (text : List ℕ) (p : CheckedProgram) → Accepted standard_blocks text p → OutputsAre (program_of p)
+  -- the locals of its functions, its methods and the bodies of its blocks have few values
+  pub locals : (most : ℕ) (decls : List (Decl ℕ)) (p : CheckedProgram) → most ≤ 4_294_967_296 → IsFormed most decls → IsGood decls → IsChecked decls p → LocalsAre (program_of p)
+  pub accepted_locals : (text : List ℕ) (p : CheckedProgram) → Accepted standard_blocks text p → LocalsAre (program_of p)
   -- where it keeps its promise, the initial values of its regions are in range
   pub starts : (p : Program) → ProgramIs p → IsSized p → StartsInRange p
   -- such outputs take at most 256 bytes
