@@ -230,7 +230,7 @@ module _ (decls : List (Decl ℕ)) (p : Program) (checked : IsChecked decls p) (
     same_tests w v a b = ap (λ z. not z && not (is_external w.sort)) (sym a) ∙ ap (λ z. not v.constant && not (is_external z)) (sym b)
 
     routine_small : (line : ℕ) (name other : List ℕ) (result : Option (TypeSpec ℕ)) (shown : Option (TypeSpec Note)) (ss : List (Section ℕ)) (ys : List (Section Note)) → routine_locals s other result ss ≡ ls → Every IsToldVariable ls
-        → ((t : TypeSpec ℕ) → result ≡ Some t → is_some (type_written s t) ≡ true) → parameter_limits decls s line result ss ≡ [] → local_limits s line ≡ [] → IfThere (TypedSpec s) result shown → Each (TypedSection s) ss ys
+        → ((t : TypeSpec ℕ) → result ≡ Some t → is_some (type_written s t) ≡ true) → parameter_limits decls s line result ss ≡ [] → local_limits decls s line ≡ [] → IfThere (TypedSpec s) result shown → Each (TypedSection s) ss ys
         → values_of_locals pp (result_of name shown ++ (those is_parameter (variables_in ys) ++ those (negated is_parameter) (variables_in ys))) ≤ 1024
     unfolding routine_locals
     routine_small line name other result shown ss ys settled told_all outcome deep most typed sections =

@@ -53,11 +53,11 @@ module _ (s : Scope) where
 
 -- ---- look-ups in a scope
 
-pub parts_in : Option TypeParts → TypeParts
+unfoldable pub parts_in : Option TypeParts → TypeParts
 parts_in None = parts.Nothing
 parts_in (Some p) = p
 
-pub variables_in_class : Option DeclaredClass → List DeclaredVariable
+unfoldable pub variables_in_class : Option DeclaredClass → List DeclaredVariable
 variables_in_class None = []
 variables_in_class (Some class) = class.variables
 
