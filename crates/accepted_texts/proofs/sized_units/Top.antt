@@ -18,7 +18,6 @@ use Rattle.st_tree.specs.declared.unit.Decl.{Decl}
 use Rattle.st_rules.specs.declared.names.DeclaredVariable.{DeclaredVariable}
 use Rattle.st_rules.specs.Classes.{classes_in}
 use Rattle.st_rules.specs.Expressions.{told}
-use Rattle.st_rules.specs.Kinds.{boolean}
 use Rattle.st_rules.specs.Named.{first_place}
 use Rattle.st_rules.specs.Scope.{Scope, is_of_instance}
 use Rattle.st_unit_rules.specs.declared_names.Declarations.{Global, Region, of_global, of_instance, programs_in, configurations_in}
@@ -81,15 +80,15 @@ module _ (decls : List (Decl ℕ)) (p : Program) (checked : IsChecked decls p) (
   abbrev Small : Shape → Type 0
   Small sh = Within unit pp (Sound decls) 131072 sh
 
-  bool_small : (sh : Shape) → shape_of pp boolean ≡ Some sh → Small sh
-  bool_small sh e =
-      let k : Some (Elementary kind.Bool) ≡ Some sh = sym (ap (shape_by pp (shape_within pp 64)) (type.outs-Elementary kind.Bool)) ∙ e in
-      let q : Elementary kind.Bool ≡ sh = cc in
+  plain_small : (sh : Shape) → shape_of pp (type.Elementary kind.Dint) ≡ Some sh → Small sh
+  plain_small sh e =
+      let k : Some (Elementary kind.Dint) ≡ Some sh = sym (ap (shape_by pp (shape_within pp 64)) (type.outs-Elementary kind.Dint)) ∙ e in
+      let q : Elementary kind.Dint ≡ sh = cc in
       subst Small q (record { values = omega arith; filled = tt; counted = tt })
 
   told_small : (o : Option StType) (sh : Shape) → ((t : StType) → o ≡ Some t → shape_of pp t ≡ Some sh → Small sh) → shape_of pp (told o) ≡ Some sh → Small sh
   unfolding told
-  told_small None sh f e = bool_small sh e
+  told_small None sh f e = plain_small sh e
   told_small (Some t) sh f e = f t refl e
 
   -- ---- globals
