@@ -1,3 +1,5 @@
+pub mod TypeLaws
+pub mod ScopeLaws
 pub mod Outcomes
 pub mod Value
 pub mod Names

@@ -3,5 +3,5 @@ pub mod Fields
 pub mod Walk
 pub mod Worth
 pub mod Private
-pub use Rattle.constant_faults.specs.declared.faults.Constant
-pub use Rattle.constant_faults.specs.Faults
+pub use Rattle.st_check_expr.specs.declared.constants.Constant
+pub use Rattle.st_check_expr.specs.Constants

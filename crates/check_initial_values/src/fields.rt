@@ -12,9 +12,9 @@ ghost use Rattle.check_initial_values.specs.Lent.{lent};
 ghost use Rattle.check_initial_values.specs.Private.Names.{name_faults};
 
 use check_names::name_spaces::HeldNames;
-use constant_faults::check_places::note;
-use constant_faults::name_resolution::Scope;
 use plc_text::{Code, NoMemory, Text};
+use st_check_expr::check_nodes::check_places::note;
+use st_check_expr::check_nodes::name_resolution::Scope;
 use st_rules::{DeclaredField, DeclaredVariable, earlier, when};
 use st_tree::{FieldInit, Init, Note, Target};
 use st_types::StType;

@@ -8,7 +8,7 @@ mod nodes;
 mod walk;
 mod worth;
 
-pub use constant_faults;
 pub use found::CheckedInitial;
+pub use st_check_expr;
 pub use walk::check_initial;
 pub use worth::with_value;

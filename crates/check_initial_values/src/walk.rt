@@ -16,9 +16,9 @@ use crate::nodes::{
 };
 use crate::worth::with_value;
 use check_names::name_spaces::HeldNames;
-use constant_faults::name_resolution::Scope;
-use constant_faults::{Constant, check_constant};
 use plc_text::{Code, NoMemory};
+use st_check_expr::check_nodes::name_resolution::Scope;
+use st_check_expr::{Constant, check_constant};
 use st_operators::asked_of;
 use st_rules::earlier;
 use st_tree::{Expr, FieldInit, Init, Part};

@@ -17,21 +17,20 @@ use crate::roots::is_bare;
 use crate::standing::{Part, Standing, standing_type};
 use name_resolution::{Meant, Qualifier, Scope};
 use plc_text::{NoMemory, Text};
-use st_rules::copied;
+use st_rules::{copied, told};
 use st_tree::{Note, Root, Selector, Target};
 use st_types::{Elem, StType};
 use std::alloc::Global;
 
 /// The note of a node of this type, where that can be told.
-#[tactic(auto, unfolding(st_rules::specs::Expressions::told))]
 pub fn note(line: u32, t: Option<StType>, target: Target) -> Note
     ensures { result ≡ expressions.note line t target }
 {
-    let kind = match t {
-        Some(t) => t,
-        None => StType::Elementary(Elem::Bool),
-    };
-    Note { line, kind, target }
+    Note {
+        line,
+        kind: told(t),
+        target,
+    }
 }
 
 /// The note of what stands there.

@@ -1,4 +1,3 @@
 pub mod OperationLaws
 pub mod NotedLaws
-pub mod TypeLaws
 pub mod ValueLaws

@@ -7,7 +7,5 @@ mod operations;
 mod outcome;
 
 pub use laws::value_laws;
-pub use literals::{duration_value, int_value, negative_value, typed_value};
 pub use noted::noted_value;
-pub use operations::{complemented, converted, negated, operated, target_value};
 pub use outcome::Outcome;

@@ -8,8 +8,5 @@ pub mod told_expressions;
 pub use check_places;
 pub use check_places::{iface_tables, name_resolution};
 pub use constant_rules::constant_part_fault;
-pub use constant_values::{
-    Outcome, complemented, converted, duration_value, int_value, negated, negative_value,
-    noted_value, operated, target_value, typed_value, value_laws,
-};
+pub use constant_values::{Outcome, noted_value, value_laws};
 pub use told_expressions::names_are_told;

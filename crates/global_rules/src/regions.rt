@@ -10,24 +10,18 @@ ghost use Rattle.global_rules.specs.Private.Regions.{IsRegion};
 use check_declared_variables::{CheckedGiven, check_given};
 use name_resolution::Scope;
 use plc_text::{NoMemory, Text};
-use st_rules::copied_text;
+use st_rules::{copied, copied_text, told};
 use st_tree::{Marks, Name, RegionDecl};
-use st_types::{Elem, StType};
+use st_types::StType;
 use st_unit_rules::declaration_list::WrittenName;
 use std::alloc::Global;
 
 /// The type as it is noted.
-#[tactic(auto, unfolding(st_rules::specs::Expressions::told))]
 fn noted(alloc: Global, kind: &Option<StType>) -> Result<StType, NoMemory>
     ensures { IfOk result (λ t. t ≡ expressions.told kind.now) }
 {
-    match kind {
-        Some(kind) => {
-            let copy = kind.copy(alloc)?;
-            Ok(copy)
-        }
-        None => Ok(StType::Elementary(Elem::Bool)),
-    }
+    let copy = copied(alloc, kind)?;
+    Ok(told(copy))
 }
 
 /// Whether it is the first of these names.

@@ -5,7 +5,7 @@ use Rattle.std.specs.Bool.{Decides}
 use Rattle.std.specs.List.{slice_get}
 use Rattle.std.proofs.lemmas.Bool.{eqb-true}
 use Rattle.std.proofs.lemmas.Option.{get_or_from_slice_get}
-use Rattle.graph_cycles.specs.declared.graph.Edge.{Edge}
+use Rattle.graph_reach.specs.declared.threads.Edge.{Edge}
 use Rattle.graph_cycles.specs.Graph.{HasEdge, marked}
 use Rattle.graph_cycles.specs.Private.Ways.{Ends, here, further, AllEnd, IsClosedBack}
 use Rattle.graph_cycles.proofs.CycleLaws.{marked_set, either_of}

@@ -2,7 +2,7 @@
 use Rattle.std.proofs.Common.{◌≡◌, ℕ, Bool, true, List}
 use Rattle.std.specs.Bool.{Decides}
 use Rattle.st_rules.specs.Chains.{is_among, Leads, itself, onward}
-use Rattle.graph_cycles.specs.declared.graph.Edge.{Edge}
+use Rattle.graph_reach.specs.declared.threads.Edge.{Edge}
 use Rattle.graph_cycles.specs.Graph.{HasEdge, AreEdgesOf, LiesOnCycle, LeadsToCycle, LeadsToMarked, marked}
 use Rattle.graph_cycles.specs.Private.Ways.{Way, IsTurning, Ends, here, further}
 use Rattle.graph_cycles.specs.Private.Ways as ways

@@ -1,7 +1,7 @@
 -- One more edge between nodes.
 use Rattle.std.proofs.Common.{◌≡◌, ℕ, zero, suc, ◌<◌, List, [], ◌∷◌, ◌++◌, Some, None, subst}
 use Rattle.std.specs.List.{slice_get}
-use Rattle.graph_cycles.specs.declared.graph.Edge.{Edge}
+use Rattle.graph_reach.specs.declared.threads.Edge.{Edge}
 use Rattle.graph_cycles.specs.Graph.{AreWithin}
 
 no_edge : (x : Edge) → None ≡ Some x → ⊥

@@ -5,7 +5,7 @@ use Rattle.std.specs.Prelude.{◌||◌, slice_set}
 use Rattle.std.specs.Bool.{Decides}
 use Rattle.std.specs.List.{slice_get}
 use Rattle.std.proofs.lemmas.Bool.{eqb-true}
-use Rattle.graph_cycles.specs.declared.graph.Edge.{Edge}
+use Rattle.graph_reach.specs.declared.threads.Edge.{Edge}
 use Rattle.graph_cycles.specs.Graph.{HasEdge, marked}
 use Rattle.graph_cycles.specs.Private.Ways.{Way, along, onward, IsTurning, mark_count, Sound, IsClosedAt}
 use Rattle.graph_cycles.proofs.CycleLaws.{snoc, marked_set, marked_none, either_of}

@@ -4,7 +4,7 @@ use Rattle.std.specs.Bool.{Decides}
 use Rattle.std.specs.List.{slice_get}
 use Rattle.std.specs.Option.{unwrap_or}
 use Rattle.st_rules.specs.Chains.{is_among, Leads}
-use Rattle.graph_cycles.specs.declared.graph.Edge.{Edge}
+use Rattle.graph_reach.specs.declared.threads.Edge.{Edge}
 
 -- an edge of the list leads from i to j
 pub record HasEdge (edges : List Edge) (i j : ℕ) : Type 0 where

@@ -1,13 +1,13 @@
 //! The nodes that lead to goals, by rounds over all edges.
 
-ghost use Rattle.graph_cycles.specs.declared.graph.Edge.{Edge};
+ghost use Rattle.graph_reach.specs.declared.threads.Edge.{Edge};
 ghost use Rattle.std.specs.Prelude.{List, ◌≡◌, ◌<◌, ◌≤◌, ℕ, Bool, length, true, false, Some};
 ghost use Rattle.graph_cycles.specs.Graph.{HasEdge, marked};
 ghost use Rattle.graph_cycles.specs.Private.Ways.{Ends, mark_count, AllEnd, IsClosedBack};
 ghost use Rattle.std.specs.List.{slice_get};
 ghost use Rattle.std.specs.Bool.{Decides};
 
-use crate::graph::Edge;
+use graph_reach::Edge;
 
 fn marked(marks: &[bool], i: usize) -> bool
     ensures { result ≡ marked marks.now i }

@@ -3,16 +3,16 @@
 ghost use Rattle.std.specs.Prelude.{List, ◌∷◌, ◌||◌, nat_eq, ◌≡◌, ◌<◌, ℕ, length, true, IfOk, Some};
 ghost use Rattle.std.specs.List.{list_any, slice_get};
 ghost use Rattle.std.specs.Bool.{Decides};
-ghost use Rattle.graph_cycles.specs.declared.graph.Edge.{Edge as AnEdge};
+ghost use Rattle.graph_reach.specs.declared.threads.Edge.{Edge as AnEdge};
 ghost use Rattle.graph_cycles.specs.Graph.{AreEdgesOf, AreWithin, LiesOnCycle, LeadsToCycle, LeadsToMarked, marked};
 ghost use Rattle.graph_cycles.specs.Private.Ways.{IsTurning};
 ghost use Rattle.graph_cycles.specs.Private.Places.{stays, stays_from};
 
 use crate::behind::behind;
-use crate::graph::Edge;
 use crate::hint::{edge_order, places};
 use crate::places::{Node, are_right};
 use crate::search::searched;
+use graph_reach::Edge;
 use plc_text::NoMemory;
 use std::alloc::Global;
 

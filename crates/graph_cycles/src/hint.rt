@@ -1,87 +1,11 @@
 //! Places of nodes, by searches with a stack of their own. Nothing is said of them here: they are checked.
 
-use crate::graph::Edge;
 use crate::places::Node;
+use graph_reach::{Edge, Threads, left_order, turns};
 use plc_text::NoMemory;
 use std::alloc::Global;
 
 const NONE: usize = usize::MAX;
-
-/// The edges at each node: the first one, and after each edge the next.
-#[derive(Drop)]
-struct Lists {
-    first: Vec<usize>,
-    next: Vec<usize>,
-}
-
-impl Lists {
-    fn new(alloc: Global, count: usize, edges: &[Edge], forward: bool) -> Result<Lists, NoMemory> {
-        let mut first: Vec<usize> = vec![in alloc; NONE; count]?;
-        let mut next: Vec<usize> = vec![in alloc; NONE; edges.len()]?;
-        for (k, edge) in edges.iter().enumerate() {
-            let i = if forward { edge.from } else { edge.to };
-            if i < first.len() && k < next.len() {
-                next[k] = first[i];
-                first[i] = k;
-            }
-        }
-        Ok(Lists { first, next })
-    }
-
-    /// The next edge at the node, which is then done with.
-    fn take(&mut self, i: usize) -> Option<usize> {
-        if i >= self.first.len() {
-            return None;
-        }
-        let k = self.first[i];
-        if k >= self.next.len() {
-            return None;
-        }
-        self.first[i] = self.next[k];
-        Some(k)
-    }
-}
-
-fn bound(count: usize, edges: &[Edge]) -> usize {
-    count.saturating_add(count).saturating_add(edges.len())
-}
-
-/// The nodes as a search leaves them.
-fn left_order(alloc: Global, count: usize, edges: &[Edge]) -> Result<Vec<usize>, NoMemory> {
-    let mut lists = Lists::new(alloc, count, edges, true)?;
-    let mut seen: Vec<bool> = vec![in alloc; false; count]?;
-    let mut stack: Vec<usize> = Vec::new(alloc);
-    let mut done: Vec<usize> = Vec::new(alloc);
-    let mut root: usize = 0;
-    for _ in 0..bound(count, edges) {
-        match stack.pop() {
-            None => {
-                if root >= seen.len() {
-                    break;
-                }
-                if !seen[root] {
-                    seen[root] = true;
-                    stack.push(root)?;
-                }
-                root += 1;
-            }
-            Some(top) => match lists.take(top) {
-                None => done.push(top)?,
-                Some(k) => {
-                    stack.push(top)?;
-                    if k < edges.len() {
-                        let to = edges[k].to;
-                        if to < seen.len() && !seen[to] {
-                            seen[to] = true;
-                            stack.push(to)?;
-                        }
-                    }
-                }
-            },
-        }
-    }
-    Ok(done)
-}
 
 fn place_of(places: &[Node], i: usize) -> Node {
     match places.get(i) {
@@ -104,7 +28,7 @@ fn groups(
     edges: &[Edge],
     order: &[usize],
 ) -> Result<Vec<Node>, NoMemory> {
-    let mut lists = Lists::new(alloc, count, edges, false)?;
+    let mut threads = Threads::new(alloc, count, edges, false)?;
     let none = Node {
         group: 0,
         root: NONE,
@@ -116,7 +40,7 @@ fn groups(
     let mut places: Vec<Node> = vec![in alloc; none; count]?;
     let mut stack: Vec<usize> = Vec::new(alloc);
     let mut left = order.len();
-    for _ in 0..bound(count, edges) {
+    for _ in 0..turns(count, edges) {
         match stack.pop() {
             None => {
                 if left == 0 || left > order.len() {
@@ -137,7 +61,7 @@ fn groups(
                 }
             }
             Some(top) => {
-                if let Some(k) = lists.take(top) {
+                if let Some(k) = threads.take(top) {
                     stack.push(top)?;
                     if k < edges.len() {
                         let from = edges[k].from;
@@ -165,10 +89,10 @@ fn groups(
 pub fn places(alloc: Global, count: usize, edges: &[Edge]) -> Result<Vec<Node>, NoMemory> {
     let order = left_order(alloc, count, edges)?;
     let mut places = groups(alloc, count, edges, &order)?;
-    let mut lists = Lists::new(alloc, count, edges, true)?;
+    let mut threads = Threads::new(alloc, count, edges, true)?;
     let mut stack: Vec<usize> = Vec::new(alloc);
     let mut root: usize = 0;
-    for _ in 0..bound(count, edges) {
+    for _ in 0..turns(count, edges) {
         match stack.pop() {
             None => {
                 if root >= places.len() {
@@ -180,7 +104,7 @@ pub fn places(alloc: Global, count: usize, edges: &[Edge]) -> Result<Vec<Node>, 
                 root += 1;
             }
             Some(top) => {
-                if let Some(k) = lists.take(top) {
+                if let Some(k) = threads.take(top) {
                     stack.push(top)?;
                     if k < edges.len() {
                         let to = edges[k].to;
@@ -212,14 +136,14 @@ pub fn places(alloc: Global, count: usize, edges: &[Edge]) -> Result<Vec<Node>, 
 /// The edges in an order in which what they lead to comes first.
 pub fn edge_order(alloc: Global, count: usize, edges: &[Edge]) -> Result<Vec<usize>, NoMemory> {
     let nodes = left_order(alloc, count, edges)?;
-    let mut lists = Lists::new(alloc, count, edges, true)?;
+    let mut threads = Threads::new(alloc, count, edges, true)?;
     let mut order: Vec<usize> = Vec::new(alloc);
     let mut at: usize = 0;
-    for _ in 0..bound(count, edges) {
+    for _ in 0..turns(count, edges) {
         if at >= nodes.len() {
             break;
         }
-        match lists.take(nodes[at]) {
+        match threads.take(nodes[at]) {
             Some(k) => order.push(k)?,
             None => at += 1,
         }

@@ -3,10 +3,9 @@
 
 mod behind;
 mod cycle;
-mod graph;
 mod hint;
 mod places;
 mod search;
 
 pub use cycle::{cycle_nodes, nodes_to, nodes_to_cycles};
-pub use graph::Edge;
+pub use graph_reach::Edge;

@@ -4,7 +4,7 @@ ghost use Rattle.std.specs.Prelude.{◌≡◌, true, ◌+◌, ◌≤◌, length}
 ghost use Rattle.std.specs.List.{list_all};
 ghost use Rattle.graph_cycles.specs.Private.Places.{falls, ahead, behind, rooted, all_rooted, AreRight};
 
-use crate::graph::Edge;
+use graph_reach::Edge;
 
 /// Where a node stands: its group, whose nodes lead to each other, and the edges to and from the group's root.
 #[derive(Clone, Copy)]

@@ -1,13 +1,13 @@
 //! Where a node leads to, by rounds over all edges.
 
-ghost use Rattle.graph_cycles.specs.declared.graph.Edge.{Edge};
+ghost use Rattle.graph_reach.specs.declared.threads.Edge.{Edge};
 ghost use Rattle.std.specs.Prelude.{List, nat_eq, ◌||◌, ◌≡◌, ◌<◌, ◌≤◌, ℕ, length, true, false, IfOk, Option, Some, None};
 ghost use Rattle.graph_cycles.specs.Graph.{HasEdge, marked};
 ghost use Rattle.graph_cycles.specs.Private.Ways.{IsTurning, mark_count, Sound, IsClosedAt};
 ghost use Rattle.std.specs.List.{slice_get};
 ghost use Rattle.std.specs.Bool.{Decides};
 
-use crate::graph::Edge;
+use graph_reach::Edge;
 use plc_text::NoMemory;
 use std::alloc::Global;
 

@@ -2,6 +2,7 @@
 //! all edges, then those that bring to one node what the others have, then those that bring it back. Nothing is said of the order
 //! here, since no answer depends on it.
 
+use crate::threads::{Edge, Threads, left_order, turns};
 use plc_text::{Items, NoMemory};
 use std::alloc::Global;
 
@@ -14,105 +15,39 @@ pub struct Step {
 
 const NONE: usize = usize::MAX;
 
-/// An edge and where it leads.
-#[derive(Clone, Copy)]
-struct Edge {
-    step: Step,
-    to: usize,
-}
-
-fn edges_of(alloc: Global, lists: &[Items<u32>]) -> Result<Vec<Edge>, NoMemory> {
-    let mut edges = Vec::new(alloc);
-    for (node, ahead) in lists.iter().enumerate() {
-        for (place, to) in ahead.as_slice().iter().enumerate() {
-            edges.push(Edge {
-                step: Step { node, place },
-                to: *to as usize,
-            })?;
-        }
-    }
-    Ok(edges)
-}
-
-/// The edges at each node: the first one, and behind each edge the next.
+/// The edges of a graph, each with its place among the edges of its node.
 #[derive(Drop)]
-struct Threads {
-    first: Vec<usize>,
-    next: Vec<usize>,
+struct Edges {
+    edges: Vec<Edge>,
+    places: Vec<usize>,
 }
 
-impl Threads {
-    fn new(
-        alloc: Global,
-        count: usize,
-        edges: &[Edge],
-        forward: bool,
-    ) -> Result<Threads, NoMemory> {
-        let mut first: Vec<usize> = vec![in alloc; NONE; count]?;
-        let mut next: Vec<usize> = vec![in alloc; NONE; edges.len()]?;
-        for (k, edge) in edges.iter().enumerate() {
-            let node = if forward { edge.step.node } else { edge.to };
-            if node < first.len() && k < next.len() {
-                next[k] = first[node];
-                first[node] = k;
+impl Edges {
+    fn new(alloc: Global, lists: &[Items<u32>]) -> Result<Edges, NoMemory> {
+        let mut edges = Vec::new(alloc);
+        let mut places = Vec::new(alloc);
+        for (node, ahead) in lists.iter().enumerate() {
+            for (place, to) in ahead.as_slice().iter().enumerate() {
+                edges.push(Edge {
+                    from: node,
+                    to: *to as usize,
+                })?;
+                places.push(place)?;
             }
         }
-        Ok(Threads { first, next })
+        Ok(Edges { edges, places })
     }
 
-    /// The next edge at the node, which is then done with.
-    fn take(&mut self, node: usize) -> Option<usize> {
-        if node >= self.first.len() {
-            return None;
-        }
-        let k = self.first[node];
-        if k >= self.next.len() {
-            return None;
-        }
-        self.first[node] = self.next[k];
-        Some(k)
-    }
-}
-
-fn turns(count: usize, edges: &[Edge]) -> usize {
-    count.saturating_add(count).saturating_add(edges.len())
-}
-
-/// The nodes in the order in which a search leaves them.
-fn left_order(alloc: Global, count: usize, edges: &[Edge]) -> Result<Vec<usize>, NoMemory> {
-    let mut threads = Threads::new(alloc, count, edges, true)?;
-    let mut seen: Vec<bool> = vec![in alloc; false; count]?;
-    let mut stack: Vec<usize> = Vec::new(alloc);
-    let mut left: Vec<usize> = Vec::new(alloc);
-    let mut root: usize = 0;
-    for _ in 0..turns(count, edges) {
-        match stack.pop() {
-            None => {
-                if root >= seen.len() {
-                    break;
-                }
-                if !seen[root] {
-                    seen[root] = true;
-                    stack.push(root)?;
-                }
-                root += 1;
-            }
-            Some(top) => match threads.take(top) {
-                None => left.push(top)?,
-                Some(k) => {
-                    stack.push(top)?;
-                    if k < edges.len() {
-                        let to = edges[k].to;
-                        if to < seen.len() && !seen[to] {
-                            seen[to] = true;
-                            stack.push(to)?;
-                        }
-                    }
-                }
-            },
+    fn step(&self, k: usize) -> Option<Step> {
+        if k < self.edges.len() && k < self.places.len() {
+            Some(Step {
+                node: self.edges[k].from,
+                place: self.places[k],
+            })
+        } else {
+            None
         }
     }
-    Ok(left)
 }
 
 /// Groups of nodes that lead to each other, those first from which others are reached.
@@ -157,8 +92,8 @@ impl Groups {
                 Some(top) => {
                     if let Some(k) = threads.take(top) {
                         stack.push(top)?;
-                        if k < edges.len() && groups.is_new(edges[k].step.node) {
-                            let node = edges[k].step.node;
+                        if k < edges.len() && groups.is_new(edges[k].from) {
+                            let node = edges[k].from;
                             groups.add(node, groups.root(top), k)?;
                             stack.push(node)?;
                         }
@@ -188,6 +123,15 @@ impl Groups {
             self.ahead[node] = ahead;
         }
         Ok(())
+    }
+
+    /// The edge of a node that leads towards its root.
+    fn step_ahead(&self, edges: &Edges, node: usize) -> Option<Step> {
+        if node < self.ahead.len() {
+            edges.step(self.ahead[node])
+        } else {
+            None
+        }
     }
 
     /// The nodes of a group, its root first.
@@ -255,8 +199,8 @@ fn found_by(
 
 /// The edges in an order in which what they lead to is soon complete.
 pub fn order(alloc: Global, lists: &[Items<u32>]) -> Result<Vec<Step>, NoMemory> {
-    let edges = edges_of(alloc, lists)?;
-    let groups = Groups::new(alloc, lists.len(), &edges)?;
+    let edges = Edges::new(alloc, lists)?;
+    let groups = Groups::new(alloc, lists.len(), &edges.edges)?;
     let mut seen: Vec<bool> = vec![in alloc; false; lists.len()]?;
     let mut steps = Vec::new(alloc);
     for back in 0..groups.starts.len() {
@@ -270,8 +214,8 @@ pub fn order(alloc: Global, lists: &[Items<u32>]) -> Result<Vec<Step>, NoMemory>
                 steps.push(*step)?;
             }
             for node in group {
-                if *node < groups.ahead.len() && groups.ahead[*node] < edges.len() {
-                    steps.push(edges[groups.ahead[*node]].step)?;
+                if let Some(step) = groups.step_ahead(&edges, *node) {
+                    steps.push(step)?;
                 }
             }
         }

@@ -3,6 +3,7 @@ pub mod Parts
 pub mod NegateLaws
 pub mod RowSteps
 pub mod WholeLaws
+pub mod ConstantLaws
 pub mod AheadSteps
 pub mod AlongSteps
 pub mod ListSteps

@@ -2,3 +2,4 @@
 pub mod Along
 pub mod Lists
 pub mod Rows
+pub mod Constants

@@ -7,6 +7,8 @@ use Rattle.std.specs.Option.{is_some}
 use Rattle.std.proofs.lemmas.Bool.{eqb-true, eq-eqb}
 use Rattle.st_rules.specs.Numbered.{passes_if_there}
 use Rattle.st_rules.specs.Chains.{is_among, ◌or_else◌, nearest, climb, IsAbove, directly, further}
+use Rattle.st_rules.specs.Upward.{upward}
+use Rattle.st_rules.proofs.UpwardLaws.{upward_is}
 use Rattle.st_rules.proofs.Booleans.{true≢false, some-same, cases, either, neither, or-first, or-second, or-neither}
 use Rattle.st_rules.proofs.Numbers.{Held, none_held, held_more, all_held}
 
@@ -15,70 +17,6 @@ pub record IsWithin (above : ℕ → Option ℕ) (n : ℕ) : Type 0 where
   pub within : (c b : ℕ) → above c ≡ Some b → (c < n) × (b < n)
 
 module _ (above : ℕ → Option ℕ) where
-  module _ {X : Type 0} (has : ℕ → Option X) where
-    -- none of these has any, and what is above them is among them or at hand
-    abbrev Passed : List ℕ → ℕ → Type 0
-    Passed held c = (x : ℕ) → is_among x held ≡ true → (has x ≡ None) × ((y : ℕ) → above x ≡ Some y → is_among y (c ∷ held) ≡ true)
-
-    abbrev Closed : List ℕ → Type 0
-    Closed held = (x : ℕ) → is_among x held ≡ true → (has x ≡ None) × ((y : ℕ) → above x ≡ Some y → is_among y held ≡ true)
-
-    -- a search upward that only counts its steps
-    abbrev upward : ℕ → ℕ → Option X
-    upward zero c = None
-    upward (suc k) c = has c or_else option_and_then (upward k) (above c)
-
-    through : (b : Option ℕ) (k : ℕ) → ((y : ℕ) → b ≡ Some y → upward k y ≡ None) → option_and_then (upward k) b ≡ None
-    through None k h = refl
-    through (Some y) k h = h y refl
-
-    round : (k c : ℕ) (held : List ℕ) → Closed held → is_among c held ≡ true → upward k c ≡ None
-    round zero c held h i = refl
-    round (suc k) c held h i = ap (λ o. o or_else option_and_then (upward k) (above c)) ((h c i).0) ∙ through (above c) k (λ y e. round k y held h ((h c i).1 y e))
-
-    closed : (c : ℕ) (held : List ℕ) → Passed held c → is_among c held ≡ true → Closed held
-    closed c held h i x j = (
-      (h x j).0,
-      λ y e. elim (either (nat_eq y c) (is_among y held) ((h x j).1 y e)) [
-        | inl q ↦ ap (λ z. is_among z held) (eqb-true y c q) ∙ i
-        | inr q ↦ q
-      ],
-    )
-
-    passed : (c y : ℕ) (held : List ℕ) → Passed held c → has c ≡ None → above c ≡ Some y → Passed (c ∷ held) y
-    passed c y held h o b x j = elim (either (nat_eq x c) (is_among x held) j) [
-      | inl q ↦ (ap has (eqb-true x c q) ∙ o, λ z e. let s : z ≡ y = some-same (sym e ∙ ap above (eqb-true x c q) ∙ b) in or-first (nat_eq z y) (is_among z (c ∷ held)) (eq-eqb z y s))
-      | inr q ↦ ((h x q).0, λ z e. or-second (nat_eq z y) (is_among z (c ∷ held)) ((h x q).1 z e))
-    ]
-
-    stays : (k : ℕ) (held : List ℕ) → nearest has (climb above k held None) ≡ None
-    stays zero held = refl
-    stays (suc k) held = refl
-
-    onward : (k c : ℕ) (held : List ℕ) (b : Option ℕ) → ((y : ℕ) → b ≡ Some y → upward k y ≡ nearest has (climb above k (c ∷ held) (Some y))) → option_and_then (upward k) b ≡ nearest has (climb above k (c ∷ held) b)
-    onward k c held None f = sym (stays k (c ∷ held))
-    onward k c held (Some y) f = f y refl
-
-    upper : (o p q : Option X) → (o ≡ None → p ≡ q) → (o or_else p) ≡ (o or_else q)
-    upper (Some m) p q f = refl
-    upper None p q f = f refl
-
-    at_class : (k c : ℕ) (held : List ℕ) → Passed held c → (b : Bool) → is_among c held ≡ b →
-        (has c ≡ None → (y : ℕ) → above c ≡ Some y → upward k y ≡ nearest has (climb above k (c ∷ held) (Some y))) →
-        upward (suc k) c ≡ nearest has (if b then [] else c ∷ climb above k (c ∷ held) (above c))
-    at_class k c held h true e f = round (suc k) c held (closed c held h e) e
-    at_class k c held h false e f = upper (has c) _ _ (λ o. onward k c held (above c) (f o))
-
-    climbed : (k c : ℕ) (held : List ℕ) → Passed held c → upward k c ≡ nearest has (climb above k held (Some c))
-    climbed zero c held h = refl
-    climbed (suc k) c held h = at_class k c held h (is_among c held) refl (λ o y b. climbed k y (c ∷ held) (passed c y held h o b))
-
-    none_passed : (c : ℕ) → Passed [] c
-    none_passed c x h = absurd (no h)
-      where
-        no : false ≡ true → ⊥
-        no = λ h. cc h
-
   module _ (n : ℕ) (w : IsWithin above n) where
     enough_at : (k : ℕ) (held : List ℕ) (c : ℕ) → Held n held → n ≤ length held + suc k → c < n → (b : Bool) → is_among c held ≡ b →
         (is_among c held ≡ false → climb above (suc k) (c ∷ held) (above c) ≡ climb above k (c ∷ held) (above c)) →
@@ -111,13 +49,13 @@ module _ (above : ℕ → Option ℕ) where
     chain_enough b h = let l : n ≤ length {A = ℕ} [] + n = omega arith in enough n [] (Some b) (none_held n) l (λ c e. subst (λ (x : ℕ). x < n) (some-same e) h)
 
     module _ {X : Type 0} (has : ℕ → Option X) where
-      from_base : (c : ℕ) (o : Option ℕ) → above c ≡ o → option_and_then (upward has n) o ≡ option_and_then (λ b. nearest has (climb above (suc n) [] (Some b))) o
+      from_base : (c : ℕ) (o : Option ℕ) → above c ≡ o → option_and_then (upward has above n) o ≡ option_and_then (λ b. nearest has (climb above (suc n) [] (Some b))) o
       from_base c None e = refl
-      from_base c (Some b) e = climbed has n b [] (none_passed has b) ∙ sym (ap (nearest has) (chain_enough b (w.within c b e).1))
+      from_base c (Some b) e = upward_is has above n b ∙ sym (ap (nearest has) (chain_enough b (w.within c b e).1))
 
       -- what is nearest in a chain: of the first, or else what is nearest in the chain of its base
       pub nearest-chain : (c : ℕ) → nearest has (climb above (suc n) [] (Some c)) ≡ (has c or_else option_and_then (λ b. nearest has (climb above (suc n) [] (Some b))) (above c))
-      nearest-chain c = sym (climbed has (suc n) c [] (none_passed has c)) ∙ ap (λ o. has c or_else o) (from_base c (above c) refl)
+      nearest-chain c = sym (upward_is has above (suc n) c) ∙ ap (λ o. has c or_else o) (from_base c (above c) refl)
 
     module _ (test : ℕ → Bool) where
       abbrev passing : ℕ → Option (Unit {0})

@@ -3,6 +3,7 @@ use Rattle.std.specs.Prelude.{ℕ, suc, ◌+◌, nat_lt, Bool, true, false, not,
 use Rattle.std.specs.Option.{is_none, is_some}
 use Rattle.plc_text.specs.declared.code.Code.TheVariants.{E05, E07, E16}
 use Rattle.st_types.specs.declared.elem.Elem.{Elem}
+use Rattle.st_types.specs.declared.elem.Elem.TheVariants as kind
 use Rattle.st_types.specs.declared.st_type.StType.{StType}
 use Rattle.st_types.specs.declared.st_type.StType.TheVariants as type
 use Rattle.st_tree.specs.declared.expression.Operator.{Operator}
@@ -150,9 +151,9 @@ reference_to_no_instance line (Some t) = when (is_none (reference_to t)) E07 lin
 
 -- ---- notes
 
--- the type in a note; one that cannot be told is seen by nobody, since the unit is refused
+-- the type in a note; one that cannot be told is noted as DINT, which nobody sees, since the unit is refused
 unfoldable pub told : Option StType → StType
-told None = boolean
+told None = type.Elementary kind.Dint
 told (Some t) = t
 
 abbrev pub note : ℕ → Option StType → Target → Note

@@ -10,6 +10,7 @@ mod laws;
 mod methods;
 mod modifiers;
 mod names;
+mod noted;
 mod rows;
 mod signature;
 mod sorts;
@@ -28,6 +29,7 @@ pub use names::{
     DeclaredClass, DeclaredField, DeclaredGlobal, DeclaredNames, DeclaredRoutine, DeclaredType,
     DeclaredVariable, TypeParts,
 };
+pub use noted::told;
 pub use rows::row_laws;
 pub use signature::{
     Parameter, ResultType, Signature, Signatures, differs_from_hook, is_hook, same_signature,

@@ -1,5 +1,4 @@
 pub mod ItemLaws
 pub mod TellingLaws
 pub mod LeftLaws
-pub use Rattle.type_resolution.proofs.told_scopes.ScopeLaws
 pub use Rattle.type_resolution.proofs.declared_variables.UntoldLaws

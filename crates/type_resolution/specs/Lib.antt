@@ -1,4 +1,3 @@
-pub mod told_scopes
 pub mod written_types
 pub mod declared_variables
 pub mod told_locals

@@ -1,10 +1,9 @@
-//! The modules `told_scopes`, `written_types`, `declared_variables`, `told_locals`, `told_names`: each says what it holds.
+//! The modules `written_types`, `declared_variables`, `told_locals`, `told_names`: each says what it holds.
 #![tactic(auto)]
 
 pub mod declared_variables;
 pub mod told_locals;
 pub mod told_names;
-pub mod told_scopes;
 pub mod written_types;
 
 pub use constant_folding;

@@ -37,6 +37,7 @@ use Rattle.st_values.specs.Shape as shape
 use Rattle.st_values.specs.Shape.{fields_of}
 use Rattle.st_values.specs.View.{sections_in, groups_in, texts, type_body, type_entry, class_of, program_of}
 use Rattle.resolution_order.specs.told_laws.ToldLaws.{Every}
+use Rattle.resolution_order.proofs.told_laws.LocalTelling.{local_laws}
 use Rattle.accepted_texts.proofs.unfolding_laws.ListLaws.{every_append, every_front, every_back, every_means, if_there, each_get, from_get}
 use Rattle.accepted_texts.proofs.unfolding_laws.NumberLaws.{IsStructure, IsEnumeration, IsClass, opened}
 use Rattle.accepted_texts.proofs.unfolding_laws.DeclaredLaws.{targets_long, scope, fields_are, members_are, members_say}
@@ -79,6 +80,17 @@ module _ (s : Scope) where
 
   pub members_kinds : (k l : ℕ) (ws : List Written) → map kind_declared (filter is_of_instance (declared_each s (member_targets s k l ws) ws)) ≡ map (λ (w : Written). type_written s w.item.kind) (filter is_kept_written ws)
   members_kinds k l ws = declared_kinds (member_targets s k l ws) ws (targets_long s k l ws)
+
+-- what a program keeps has types that are told
+module _ (decls : List (Decl ℕ)) (all_told : PartsAreTold decls) where
+  pub program_told : (k : ℕ) (x : ProgramDecl ℕ) → slice_get (programs_in decls) k ≡ Some x
+      → Every (λ (w : Written). is_kept_written w ≡ true → is_some (type_written (program_scope decls (unit_names decls) x) w.item.kind) ≡ true) (sections_written x.sections)
+  unfolding program_scope
+  program_told k x there =
+      let settled = (local_laws.program (unit_scope decls (unit_names decls)) x.sections).settled in
+      members_say (program_scope decls (unit_names decls) x) (λ o. is_some o ≡ true) 0 0 (sections_written x.sections)
+      (every_means (λ (v : DeclaredVariable). is_some v.kind ≡ true) (λ (v : DeclaredVariable). is_of_instance v ≡ true → is_some v.kind ≡ true) (λ v h i. h) _
+      (subst (Every (λ (v : DeclaredVariable). is_some v.kind ≡ true)) (sym settled) (all_told.programs k x there)))
 
 -- ---- what checked declarations are
 

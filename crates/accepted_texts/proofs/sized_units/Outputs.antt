@@ -1,6 +1,7 @@
 -- The variables with addresses of a checked program have just the bits that the rules compare, so its outputs share none.
 use Rattle.std.proofs.Common.{◌≡◌, ◌≤◌, ◌<◌, ℕ, suc, ◌+◌, ◌*◌, Bool, true, false, List, [], ◌∷◌, ◌++◌, map, length, Option, Some, None, refl, sym, ap, ◌∙◌, subst, inl, inr, arith, ltb-false}
-use Rattle.std.specs.Prelude.{◌⊎◌, if◌then◌else◌, not, ◌&&◌, nat_eq, nat_le, nat_lt, filter, flat_map, option_map, slice_get}
+use Rattle.std.specs.Prelude.{◌⊎◌, not, ◌&&◌, nat_eq, nat_le, nat_lt, filter, flat_map, option_map, slice_get}
+use Rattle.std.specs.Option.{is_some}
 use Rattle.std.proofs.lemmas.List.{map-append}
 use Rattle.st_types.specs.declared.elem.Elem.{Elem}
 use Rattle.st_types.specs.declared.elem.Elem.TheVariants as kind
@@ -52,12 +53,15 @@ use Rattle.accepted_texts.proofs.unfolding_laws.ChainLaws.{program_seen}
 use Rattle.accepted_texts.proofs.unfolding_laws.RegionLaws.{OfRegion, OfGlobal, OfProgram, all_programs, each_program, all_regions, each_region}
 use Rattle.accepted_texts.specs.formed_units.Formed as formed
 use Rattle.accepted_texts.specs.formed_units.Formed.{IfThere, FormedAddress, FormedItem, FormedVars, IsFormed}
-use Rattle.accepted_texts.proofs.formed_texts.Units.{over, FormedPart, all_parts}
-use Rattle.accepted_texts.proofs.sized_units.Addresses.{IsPlaced, ItemPlaced, WrittenPlaced, unit, global_placed, ProgramPlaced, program_placed}
+use Rattle.accepted_texts.specs.told_units.Formed.{IsFormedType, IsFormedDeclaration}
+use Rattle.accepted_texts.specs.told_units.Told.{AllIsTold}
+use Rattle.accepted_texts.proofs.formed_texts.Units.{over, FormedPart, all_parts, formed_unit}
+use Rattle.accepted_texts.proofs.sized_units.Addresses.{IsPlaced, ItemPlaced, WrittenPlaced, unit, GlobalPlaced, global_placed, ProgramPlaced, program_placed}
 use Rattle.accepted_texts.proofs.sized_units.Bits.{bit_in, bit_once}
 use Rattle.accepted_texts.proofs.sized_units.Depths.{type_is}
 use Rattle.accepted_texts.proofs.sized_units.Instances.{found_named, IsFound, instances_found}
-use Rattle.accepted_texts.proofs.sized_units.Kept.{program_variables}
+use Rattle.accepted_texts.proofs.sized_units.Kept.{program_told, program_variables}
+use Rattle.accepted_texts.proofs.sized_units.Told.{parts_are_told}
 use Rattle.accepted_texts.proofs.sized_units.Variables.{IsOf, kept_of}
 
 -- ---- a variable with an address
@@ -108,17 +112,17 @@ bool_of t (StType-F.Reference k) q h = let s = type_is t (StType-F.Reference k) 
 bool_of t (StType-F.Interface k) q h = let s = type_is t (StType-F.Interface k) q ∙ type.rolls-Interface k in absurd (false≢true (sym (ap (λ u. is_elementary_of_width 1 (Some u)) s) ∙ h))
 bool_of t (StType-F.Array low high of) q h = let s = type_is t (StType-F.Array low high of) q ∙ type.rolls-Array low high of in absurd (false≢true (sym (ap (λ u. is_elementary_of_width 1 (Some u)) s) ∙ h))
 
-told_bool : (t : Option StType) → is_elementary_of_width 1 t ≡ true → elem_of (told t) ≡ kind.Bool
+told_bool : (t : Option StType) → is_some t ≡ true → is_elementary_of_width 1 t ≡ true → elem_of (told t) ≡ kind.Bool
 unfolding told
-told_bool None h = refl
-told_bool (Some t) h = bool_of t (out-StType t) refl h
+told_bool None i h = absurd (false≢true i)
+told_bool (Some t) i h = bool_of t (out-StType t) refl h
 
-single_bool : (t : Option StType) (w : Width) → is_elementary_of_width (width_bits w) t ≡ true → is_bit w ≡ true → elem_of (told t) ≡ kind.Bool
-single_bool t width.Bit h b = told_bool t h
-single_bool t width.Byte h b = cc
-single_bool t width.Word h b = cc
-single_bool t width.DoubleWord h b = cc
-single_bool t width.LongWord h b = cc
+single_bool : (t : Option StType) (w : Width) → is_some t ≡ true → is_elementary_of_width (width_bits w) t ≡ true → is_bit w ≡ true → elem_of (told t) ≡ kind.Bool
+single_bool t width.Bit i h b = told_bool t i h
+single_bool t width.Byte i h b = cc
+single_bool t width.Word i h b = cc
+single_bool t width.DoubleWord i h b = cc
+single_bool t width.LongWord i h b = cc
 
 abbrev AddressFormed : Written → Type 0
 AddressFormed w = IfThere FormedAddress w.item.address
@@ -127,9 +131,13 @@ AddressFormed w = IfThere FormedAddress w.item.address
 record Admits (home : Home) : Type 0 where
   located : (so : SectionSort) (c : Bool) → (may_have_address home so && not c) ≡ true → (may_be_located so && not c) ≡ true
 
+-- what is written has a type that is told
+abbrev IsToldIn : Scope → Item ℕ → Type 0
+IsToldIn s item = is_some (type_written s item.kind) ≡ true
+
 module _ (s : Scope) (home : Home) (admits : Admits home) where
-  one_takes : (q : Path) (v : Variable) (w : Written) → v.address ≡ w.item.address → v.kind ≡ told (type_written s w.item.kind) → WrittenPlaced s home w → AddressFormed w → Takes (located q v v.address) (variable_bits w)
-  one_takes q v w e k placed formed = subst (λ o. Takes (located q v o) (variable_bits w)) (sym e) (by w.item.address placed formed)
+  one_takes : (q : Path) (v : Variable) (w : Written) → v.address ≡ w.item.address → v.kind ≡ told (type_written s w.item.kind) → WrittenPlaced s home w → AddressFormed w → IsToldIn s w.item → Takes (located q v v.address) (variable_bits w)
+  one_takes q v w e k placed formed known = subst (λ o. Takes (located q v o) (variable_bits w)) (sym e) (by w.item.address placed formed)
     where
       nothing : (b : Bool) → Takes [] (if b then bits_of None else [])
       nothing true = record { each = tt; same = refl }
@@ -144,7 +152,7 @@ module _ (s : Scope) (home : Home) (admits : Admits home) where
           let there = or-neither (has_bit_above_seven text) (passes_the_image text) i.low i.within in
           let few = ltb-false 7 (bit_of text) i.low in
           let x : Located = record { path = q; elem = elem_of v.kind; address = text } in
-          let each : IsLocated x = record { formed = f; low = omega (arith, few); within = i.within; single = λ b. ap elem_of k ∙ single_bool (type_written s w.item.kind) (width_of text) i.wide b } in
+          let each : IsLocated x = record { formed = f; low = omega (arith, few); within = i.within; single = λ b. ap elem_of k ∙ single_bool (type_written s w.item.kind) (width_of text) known i.wide b } in
           subst (Takes (x ∷ [])) (sym (ap (λ b. if b then bits_of (Some text) else []) here ∙ ap (λ b. if b then [] else bits_at text ∷ []) there)) (record { each = (each, tt); same = refl })
 
 globals_admit : Admits of_globals
@@ -196,17 +204,20 @@ module _ (s : Scope) where
       by None p = nothing (may_be_located w.sort && not w.constant)
       by (Some text) p = absurd (false≢true (sym h ∙ kept_placed w.sort w.constant (p text refl).allowed))
 
-  variables_take : (r k : ℕ) (vs : List Variable) (ws : List Written) → Each (IsOf s) vs (filter is_kept_written ws) → Every (WrittenPlaced s of_program) ws → Every AddressFormed ws → Takes (located_variables r k vs) (all_bits ws)
-  variables_take r k [] [] h p f = record { each = tt; same = refl }
-  variables_take r k (v ∷ vs) [] h p f = absurd h
-  variables_take r k vs (w ∷ ws) h p f = by (is_kept_written w) refl vs h (λ j us g. variables_take r j us ws g p.1 f.1)
+  abbrev IsKnown : Written → Type 0
+  IsKnown w = is_kept_written w ≡ true → IsToldIn s w.item
+
+  variables_take : (r k : ℕ) (vs : List Variable) (ws : List Written) → Each (IsOf s) vs (filter is_kept_written ws) → Every (WrittenPlaced s of_program) ws → Every AddressFormed ws → Every IsKnown ws → Takes (located_variables r k vs) (all_bits ws)
+  variables_take r k [] [] h p f t = record { each = tt; same = refl }
+  variables_take r k (v ∷ vs) [] h p f t = absurd h
+  variables_take r k vs (w ∷ ws) h p f t = by (is_kept_written w) refl vs h (λ j us g. variables_take r j us ws g p.1 f.1 t.1)
     where
       by : (b : Bool) → is_kept_written w ≡ b → (us : List Variable) → Each (IsOf s) us (if b then w ∷ filter is_kept_written ws else filter is_kept_written ws)
           → ((j : ℕ) (zs : List Variable) → Each (IsOf s) zs (filter is_kept_written ws) → Takes (located_variables r j zs) (all_bits ws)) → Takes (located_variables r k us) (variable_bits w ++ all_bits ws)
       by true e [] g rest = absurd g
       by true e (u ∷ us) g rest =
           both_take (located (record { region = r; steps = step.Field k ∷ [] }) u u.address) (located_variables r (suc k) us) (variable_bits w) (all_bits ws)
-          (one_takes s of_program programs_admit (record { region = r; steps = step.Field k ∷ [] }) u w g.0.address g.0.kind p.0 f.0) (rest (suc k) us g.1)
+          (one_takes s of_program programs_admit (record { region = r; steps = step.Field k ∷ [] }) u w g.0.address g.0.kind p.0 f.0 (t.0 e)) (rest (suc k) us g.1)
       by false e us g rest = subst (λ bs. Takes (located_variables r k us) (bs ++ all_bits ws)) (sym (none_takes w e p.0)) (rest k us g)
 
 -- ---- the addresses that are written are formed
@@ -245,28 +256,54 @@ module _ (most : ℕ) (decls : List (Decl ℕ)) (all_formed : IsFormed most decl
       all_regions decls (λ so constant item. IfThere FormedAddress item.address) (λ x. Unit {0})
       (every_means (FormedPart most) (OfGlobal (λ so constant item. IfThere FormedAddress item.address) (λ x. Unit {0})) global_formed (declarations decls) (all_parts most decls all_formed))
 
+  kind_formed : (d : Declaration) → IsFormedDeclaration d → OfGlobal (λ so constant item. IsFormedType item.kind) (λ x. Unit {0}) d
+  kind_formed (a_global g) h = λ q. h.0
+  kind_formed (a_configuration c) h = every_one (λ (x : InstanceSpec). Unit {0}) (λ x. tt) c.instances
+  kind_formed (an_entry t) h = tt
+  kind_formed (an_interface d) h = tt
+  kind_formed (a_class d) h = tt
+  kind_formed (a_function d) h = tt
+  kind_formed (a_program d) h = tt
+
+  kinds_formed : Every (OfRegion (λ so constant item. IsFormedType item.kind) (λ x. Unit {0})) (unit_regions decls)
+  kinds_formed =
+      all_regions decls (λ so constant item. IsFormedType item.kind) (λ x. Unit {0})
+      (every_means IsFormedDeclaration (OfGlobal (λ so constant item. IsFormedType item.kind) (λ x. Unit {0})) kind_formed (declarations decls) (formed_unit most decls all_formed).declared)
+
   programs_formed : Every ProgramFormed (programs_in decls)
   programs_formed = all_programs decls ProgramFormed (every_means (FormedPart most) (OfProgram ProgramFormed) program_formed (declarations decls) (all_parts most decls all_formed))
 
 -- ---- regions
 
-module _ (most : ℕ) (decls : List (Decl ℕ)) (p : Program) (all_formed : IsFormed most decls) (good : BreaksNothing decls) (checked : IsChecked decls p) where
+module _ (most : ℕ) (decls : List (Decl ℕ)) (p : Program) (all_formed : IsFormed most decls) (good : BreaksNothing decls) (checked : IsChecked decls p) (all : AllIsTold decls) where
   abbrev pp : seen.Program
   pp = program_of p
 
+  abbrev GlobalFormed : SectionSort → Bool → Item ℕ → Type 0
+  GlobalFormed so constant item = IfThere FormedAddress item.address × IsFormedType item.kind
+
   abbrev GlobalFine : SectionSort → Bool → Item ℕ → Type 0
-  GlobalFine so constant item = ItemPlaced (unit decls) of_globals so constant item × IfThere FormedAddress item.address
+  GlobalFine so constant item = ItemPlaced (unit decls) of_globals so constant item × IfThere FormedAddress item.address × IsToldIn (unit decls) item
 
   abbrev RegionFine : Region → Type 0
   RegionFine u = OfRegion GlobalFine (IsFound decls) u
 
+  globals_formed : Every (OfRegion GlobalFormed (λ x. Unit {0})) (unit_regions decls)
+  globals_formed =
+      every_both (OfRegion (λ so constant item. IfThere FormedAddress item.address) (λ x. Unit {0})) (OfRegion (λ so constant item. IsFormedType item.kind) (λ x. Unit {0})) (OfRegion GlobalFormed (λ x. Unit {0})) join (unit_regions decls)
+      (regions_formed most decls all_formed) (kinds_formed most decls all_formed)
+    where
+      join : (u : Region) → OfRegion (λ so constant item. IfThere FormedAddress item.address) (λ x. Unit {0}) u → OfRegion (λ so constant item. IsFormedType item.kind) (λ x. Unit {0}) u → OfRegion GlobalFormed (λ x. Unit {0}) u
+      join (of_global w) h k = (h, k)
+      join (of_instance x) h k = tt
+
   regions_fine : Every RegionFine (unit_regions decls)
   regions_fine =
-      every_both (OfRegion (ItemPlaced (unit decls) of_globals) (IsFound decls)) (OfRegion (λ so constant item. IfThere FormedAddress item.address) (λ x. Unit {0})) RegionFine join (unit_regions decls)
-      (each_region decls (ItemPlaced (unit decls) of_globals) (IsFound decls) (global_placed decls) (instances_found decls) good) (regions_formed most decls all_formed)
+      every_both (OfRegion (GlobalPlaced decls) (IsFound decls)) (OfRegion GlobalFormed (λ x. Unit {0})) RegionFine join (unit_regions decls)
+      (each_region decls (GlobalPlaced decls) (IsFound decls) (global_placed decls) (instances_found decls) good) globals_formed
     where
-      join : (u : Region) → OfRegion (ItemPlaced (unit decls) of_globals) (IsFound decls) u → OfRegion (λ so constant item. IfThere FormedAddress item.address) (λ x. Unit {0}) u → RegionFine u
-      join (of_global w) h k = (h, k)
+      join : (u : Region) → OfRegion (GlobalPlaced decls) (IsFound decls) u → OfRegion GlobalFormed (λ x. Unit {0}) u → RegionFine u
+      join (of_global w) h k = (h.0, k.0, all.unit.written w.item.kind k.1 h.1)
       join (of_instance x) h k = h
 
   global_takes : (r : ℕ) (w : Written) (d : RegionDecl) → GlobalRegion decls w d → RegionFine (of_global w) → Takes (located_in pp r (region_of d)) (variable_bits w)
@@ -274,7 +311,7 @@ module _ (most : ℕ) (decls : List (Decl ℕ)) (p : Program) (all_formed : IsFo
       let x = region_of d in
       let e : located_in pp r x ≡ located (record { region = r; steps = [] }) x.variable x.variable.address =
       ap (λ b. if b then located_variables r 0 (class_variables pp (class_of_kind x.variable.kind)) else located (record { region = r; steps = [] }) x.variable x.variable.address) h.program in
-      subst (λ us. Takes us (variable_bits w)) (sym e) (one_takes (unit decls) of_globals globals_admit (record { region = r; steps = [] }) x.variable w h.address h.kind k.0 k.1)
+      subst (λ us. Takes us (variable_bits w)) (sym e) (one_takes (unit decls) of_globals globals_admit (record { region = r; steps = [] }) x.variable w h.address h.kind k.0 k.1 k.2)
 
   instance_takes : (r : ℕ) (x : InstanceSpec) (d : RegionDecl) → InstanceRegion decls x d → RegionFine (of_instance x) → Takes (located_in pp r (region_of d)) (program_bits decls (rules.program_of decls x))
   unfolding told program_scope
@@ -294,7 +331,7 @@ module _ (most : ℕ) (decls : List (Decl ℕ)) (p : Program) (all_formed : IsFo
       let formed = every_at (ProgramFormed most decls all_formed) (programs_in decls) k.0 found.0 (programs_formed most decls all_formed) found.1 in
       subst (λ us. Takes us (program_bits decls (rules.program_of decls x))) (sym e)
       (subst (λ o. Takes (located_variables r 0 kept) (program_bits decls o)) (sym found.2)
-      (variables_take s r 0 kept (sections_written found.0.sections) (kept_of s found.0.sections y.0.sections y.2.sections) placed formed))
+      (variables_take s r 0 kept (sections_written found.0.sections) (kept_of s found.0.sections y.0.sections y.2.sections) placed formed (program_told decls (parts_are_told decls all) k.0 found.0 found.1)))
 
   region_takes : (r : ℕ) (u : Region) (d : RegionDecl) → TypedRegion decls u d → RegionFine u → Takes (located_in pp r (region_of d)) (region_bits decls u)
   region_takes r (of_global w) d h k = global_takes r w d h k
@@ -374,9 +411,9 @@ ends_within x h out =
     let end = ltb-false (image_bytes (area_of x.address)) (i * width_bytes w + width_bytes w) h.within in
     subst (λ k. i * bytes_in w + bytes_in w ≤ k) (image_small (area_of x.address) out) (subst (λ k. i * k + k ≤ image_bytes (area_of x.address)) (widths_same w) end)
 
-pub outputs_are : (most : ℕ) (decls : List (Decl ℕ)) (p : Program) → IsFormed most decls → BreaksNothing decls → IsChecked decls p → OutputsAre (program_of p)
-outputs_are most decls p all_formed good checked =
-    let t = program_takes most decls p all_formed good checked in
+pub outputs_are : (most : ℕ) (decls : List (Decl ℕ)) (p : Program) → IsFormed most decls → BreaksNothing decls → IsChecked decls p → AllIsTold decls → OutputsAre (program_of p)
+outputs_are most decls p all_formed good checked all =
+    let t = program_takes most decls p all_formed good checked all in
     record {
       within = λ x k out. ends_within x (every_has IsLocated (located_of (program_of p)) x t.each k) out;
       apart = λ n.

@@ -1,7 +1,6 @@
 -- The checked program of a good unit is sized.
-use Rattle.std.proofs.Common.{◌≡◌, ◌≤◌, ◌<◌, ℕ, suc, ◌+◌, Bool, true, false, List, [], ◌∷◌, ◌++◌, map, length, Option, Some, None, refl, sym, ap, ◌∙◌, subst, arith}
+use Rattle.std.proofs.Common.{◌≡◌, ◌≤◌, ◌<◌, ℕ, suc, ◌+◌, true, false, List, [], ◌∷◌, ◌++◌, map, length, Option, Some, None, refl, sym, ap, ◌∙◌, subst, arith}
 use Rattle.std.specs.Prelude.{if◌then◌else◌, filter, option_map, slice_get}
-use Rattle.std.specs.Option.{is_some}
 use Rattle.std.specs.List.{list_any}
 use Rattle.std.proofs.lemmas.Option.{slice_get-map, slice_get_within}
 use Rattle.plc_text.specs.Words.{same}
@@ -19,7 +18,6 @@ use Rattle.st_tree.specs.declared.unit.Decl.{Decl}
 use Rattle.st_rules.specs.declared.names.DeclaredVariable.{DeclaredVariable}
 use Rattle.st_rules.specs.Classes.{classes_in}
 use Rattle.st_rules.specs.Expressions.{told}
-use Rattle.st_rules.specs.Kinds.{boolean}
 use Rattle.st_rules.specs.Named.{first_place}
 use Rattle.st_rules.specs.Scope.{Scope, is_of_instance}
 use Rattle.st_unit_rules.specs.declared_names.Declarations.{Global, Region, of_global, of_instance, programs_in, configurations_in}
@@ -48,12 +46,12 @@ use Rattle.accepted_texts.proofs.unfolding_laws.RegionLaws.{OfRegion, each_regio
 use Rattle.accepted_texts.proofs.unfolding_laws.GoodLaws.{GoodProgram, programs_good}
 use Rattle.accepted_texts.proofs.unfolding_laws.UnfoldingLaws.{unfolding_laws}
 use Rattle.accepted_texts.proofs.unfolding_laws.ListLaws.{every_at, every_one, every_mapped, every_means, there_below, if_there, if_found, each_get, from_long}
-use Rattle.accepted_texts.proofs.unfolding_laws.DeclaredLaws.{scope, members_say}
+use Rattle.accepted_texts.proofs.unfolding_laws.DeclaredLaws.{scope}
 use Rattle.accepted_texts.proofs.unfolding_laws.ChainLaws.{IsProgram, program_seen}
 use Rattle.mem_layout.specs.loaded_meaning.Sized.{values_of, IsSized}
 use Rattle.accepted_texts.proofs.sized_units.Counted.{Sums, Keeps, Within, counted, fields_within}
 use Rattle.accepted_texts.proofs.sized_units.Few.{few_classes}
-use Rattle.accepted_texts.proofs.sized_units.Kept.{EnumerationsAreFew, PartsAreTold, kind_declared, members_kinds, program_variables, keeps}
+use Rattle.accepted_texts.proofs.sized_units.Kept.{EnumerationsAreFew, PartsAreTold, program_told, kind_declared, members_kinds, program_variables, keeps}
 use Rattle.accepted_texts.proofs.sized_units.Instances.{found_named}
 use Rattle.accepted_texts.proofs.sized_units.Parts.{part_small, few_elements}
 use Rattle.accepted_texts.proofs.sized_units.Regions.{regions_few, region_few, tasks_busy, region_runs, a_region}
@@ -82,15 +80,15 @@ module _ (decls : List (Decl ℕ)) (p : Program) (checked : IsChecked decls p) (
   abbrev Small : Shape → Type 0
   Small sh = Within unit pp (Sound decls) 131072 sh
 
-  bool_small : (sh : Shape) → shape_of pp boolean ≡ Some sh → Small sh
-  bool_small sh e =
-      let k : Some (Elementary kind.Bool) ≡ Some sh = sym (ap (shape_by pp (shape_within pp 64)) (type.outs-Elementary kind.Bool)) ∙ e in
-      let q : Elementary kind.Bool ≡ sh = cc in
+  plain_small : (sh : Shape) → shape_of pp (type.Elementary kind.Dint) ≡ Some sh → Small sh
+  plain_small sh e =
+      let k : Some (Elementary kind.Dint) ≡ Some sh = sym (ap (shape_by pp (shape_within pp 64)) (type.outs-Elementary kind.Dint)) ∙ e in
+      let q : Elementary kind.Dint ≡ sh = cc in
       subst Small q (record { values = omega arith; filled = tt; counted = tt })
 
   told_small : (o : Option StType) (sh : Shape) → ((t : StType) → o ≡ Some t → shape_of pp t ≡ Some sh → Small sh) → shape_of pp (told o) ≡ Some sh → Small sh
   unfolding told
-  told_small None sh f e = bool_small sh e
+  told_small None sh f e = plain_small sh e
   told_small (Some t) sh f e = f t refl e
 
   -- ---- globals
@@ -141,10 +139,7 @@ module _ (decls : List (Decl ℕ)) (p : Program) (checked : IsChecked decls p) (
       let s = program_scope decls (unit_names decls) x in
       let ws = sections_written x.sections in
       let settled = (local_laws.program (unit_scope decls (unit_names decls)) x.sections).settled in
-      let told = members_say s (λ o. is_some o ≡ true) 0 0 ws
-      (every_means (λ (v : DeclaredVariable). is_some v.kind ≡ true) (λ (v : DeclaredVariable). is_of_instance v ≡ true → is_some v.kind ≡ true) (λ v h i. h) _
-      (subst (Every (λ (v : DeclaredVariable). is_some v.kind ≡ true)) (sym settled) (all_told.programs k x there))) in
-      let alike = kept_alike decls s (unit_sound decls) x.sections y.sections typed.sections told in
+      let alike = kept_alike decls s (unit_sound decls) x.sections y.sections typed.sections (program_told decls all_told k x there) in
       let kinds = sym (members_kinds s 0 0 ws) ∙ ap (λ vs. map kind_declared (filter is_of_instance vs)) settled in
       alike_sums decls s pp (those is_kept (variables_in y.sections)) _ (subst (Each (Alike decls) (those is_kept (variables_in y.sections))) kinds alike)
 

@@ -31,9 +31,11 @@ good_locals most decls p l h good checked =
 pub sized_unit_laws : SizedUnitLaws
 sized_unit_laws = record {
   sized = good_sized;
-  outputs = λ most decls p h good checked. outputs_are most decls p h good.nothing checked;
+  outputs = λ most decls p h good checked. outputs_are most decls p h good.nothing checked (formed_text_laws.told most decls h good.nothing);
   accepted = λ text p a. good_sized most_bytes a.whole.decls p (omega arith) (formed_text_laws.standard text a.whole a.is_unit) a.good a.checked;
-  accepted_outputs = λ text p a. outputs_are most_bytes a.whole.decls p (formed_text_laws.standard text a.whole a.is_unit) a.good.nothing a.checked;
+  accepted_outputs = λ text p a.
+      let h = formed_text_laws.standard text a.whole a.is_unit in
+      outputs_are most_bytes a.whole.decls p h a.good.nothing a.checked (formed_text_laws.told most_bytes a.whole.decls h a.good.nothing);
   locals = good_locals;
   accepted_locals = λ text p a. good_locals most_bytes a.whole.decls p (omega arith) (formed_text_laws.standard text a.whole a.is_unit) a.good a.checked;
   starts = starts_in_range;

@@ -20,7 +20,7 @@ use Rattle.st_unit_rules.specs.Cycles.{place_from, class_place, base_place, cont
 use Rattle.st_unit_rules.specs.UnitRefusal.{BreaksNothing}
 use Rattle.resolution_order.specs.told_laws.ToldLaws.{Every}
 use Rattle.accepted_texts.proofs.unfolding_laws.CycleLaws.{none_in, all_placed, none_there}
-use Rattle.constant_folding.proofs.constant_values.TypeLaws.{holds-not}
+use Rattle.accepted_texts.proofs.told_units.TypeLaws.{holds-not}
 use Rattle.accepted_texts.proofs.told_units.Rows.{Rows, no_rows, skips, takes, rows-append, rows-skip, chosen, not-chosen, added-first, among_front}
 use Rattle.declared_graph.proofs.BoundLaws.{contained_within}
 use Rattle.accepted_texts.proofs.told_units.Classes.{bases, from-base}

@@ -33,7 +33,7 @@ use Rattle.accepted_texts.specs.told_units.Told.{HasValue}
 use Rattle.accepted_texts.proofs.told_units.Meant.{ClassesHave, name-means}
 use Rattle.accepted_texts.proofs.told_units.Inner.{AreRows, IsWellWritten, IsToldWritten, members-rows, constants-told}
 use Rattle.accepted_texts.proofs.told_units.Sections.{sections-good}
-use Rattle.type_resolution.proofs.told_scopes.ScopeLaws.{scope-laws}
+use Rattle.accepted_texts.proofs.told_units.ScopeLaws.{values-have-types}
 
 -- ---- look-ups
 
@@ -145,7 +145,7 @@ module _ (decls : List (Decl ℕ))
             let s = class_scope decls (unit_names decls) c in
             let g = good c d e in
             let ws = sections_written (sections_in d.members) in
-            let values = scope-laws.values s tells tt in
+            let values = values-have-types s tells tt in
             constants-told s ws (class_declared decls (unit_names decls) c d).variables (class-rows c d) types values meant
             (sections-good s values (class_home decls d.sort) (sections_in d.members) g.rules) g.well g.free
           where

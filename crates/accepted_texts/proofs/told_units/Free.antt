@@ -10,7 +10,7 @@ use Rattle.st_rules.proofs.Booleans.{none≢some}
 use Rattle.st_unit_rules.specs.declared_names.Declarations.{Declaration, item_line}
 use Rattle.st_unit_rules.specs.declared_names.Variables.{Written}
 use Rattle.accepted_texts.proofs.unfolding_laws.CycleLaws.{none_in}
-use Rattle.constant_folding.proofs.constant_values.TypeLaws.{holds-not}
+use Rattle.accepted_texts.proofs.told_units.TypeLaws.{holds-not}
 use Rattle.st_unit_rules.specs.Cycles.{contains_itself, needed, needed_at, needs_itself, inner_needed, inner_needed_at, needs_inner, inner_cycle}
 
 pub declared-free : (ds : List Declaration) → ((i : ℕ) (d : Declaration) → slice_get ds i ≡ Some d → (line : ℕ) × (when (contains_itself ds i) E06 line ++ when (needs_itself ds i) E06 line ≡ [])) → (i : ℕ) → needs_itself ds i ≡ false

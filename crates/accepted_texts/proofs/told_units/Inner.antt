@@ -17,7 +17,6 @@ use Rattle.st_unit_rules.specs.declared_names.Constants.{is_told}
 use Rattle.st_unit_rules.specs.declared_names.Variables.{Written, declared_with, declared_each, member_targets, local_targets, constant_target, constant_of}
 use Rattle.st_unit_rules.specs.declared_names.WrittenTypes.{type_written, type_faults}
 use Rattle.st_unit_rules.specs.VariableRules.{bad_constant, initial_if_given}
-use Rattle.constant_folding.specs.constant_values.ValueLaws.{ValuesHaveTypes}
 use Rattle.resolution_order.specs.told_laws.ToldLaws.{Every}
 use Rattle.resolution_order.proofs.told_laws.Tells.{pick}
 use Rattle.accepted_texts.proofs.unfolding_laws.ListLaws.{every_at, every_from, every_front, every_back, every_one}
@@ -30,6 +29,7 @@ use Rattle.accepted_texts.proofs.told_units.Written.{written-told, constant-told
 use Rattle.accepted_texts.proofs.told_units.Acyclic.{all_of}
 use Rattle.accepted_texts.proofs.told_units.Rows.{added-first, by-needs, chosen, not-chosen}
 use Rattle.accepted_texts.specs.told_units.Told.{HasValue}
+use Rattle.accepted_texts.proofs.told_units.TypeLaws.{ValuesHaveTypes}
 
 target-there : (o : Option _) → is_some o ≡ true → is_told (constant_target o) ≡ true
 target-there None h = absurd (cc)

@@ -14,7 +14,6 @@ use Rattle.st_unit_rules.specs.declared_names.UnitNames.{locals_of, program_loca
 use Rattle.st_unit_rules.specs.declared_names.Variables.{Written, sections_written, members_declared, routine_locals, locals_declared, result_declared, constant_of, constant_target}
 use Rattle.st_unit_rules.specs.declared_names.WrittenTypes.{type_written, type_faults}
 use Rattle.st_unit_rules.specs.VariableRules.{Home, sections_faults, result_faults, instance_out_of_place}
-use Rattle.constant_folding.specs.constant_values.ValueLaws.{ValuesHaveTypes}
 use Rattle.resolution_order.specs.told_laws.ToldLaws.{Every, TellsKind, TellsKinds}
 use Rattle.resolution_order.proofs.told_laws.LocalTelling.{local_laws}
 use Rattle.resolution_order.proofs.told_laws.Tells.{routine-tells, members-tell}
@@ -27,8 +26,9 @@ use Rattle.accepted_texts.specs.told_units.Told.{HasValue, IsToldVariable, IsTol
 use Rattle.accepted_texts.proofs.told_units.Meant.{ClassesHave, name-means}
 use Rattle.accepted_texts.proofs.told_units.Inner.{AreRows, IsGoodWritten, IsWellWritten, IsToldWritten, members-rows, locals-rows, constants-told, each-name}
 use Rattle.accepted_texts.proofs.told_units.Sections.{sections-good}
-use Rattle.type_resolution.proofs.told_scopes.ScopeLaws.{scope-laws}
+use Rattle.accepted_texts.proofs.told_units.ScopeLaws.{values-have-types}
 use Rattle.accepted_texts.proofs.told_units.Written.{written-told}
+use Rattle.accepted_texts.proofs.told_units.TypeLaws.{ValuesHaveTypes}
 
 pub all-told : (s : Scope) → ValuesHaveTypes s → ((name : List ℕ) → IsToldType s name) → ((name : List ℕ) → IsToldName s name) → AllTold s
 all-told s v types names = record {
@@ -70,7 +70,7 @@ module _ (s : Scope) (types : (name : List ℕ) → IsToldType s name) (tells : 
 
       routine-types : ValuesHaveTypes (record s { locals = locals_of s name result sections })
       routine-types =
-          scope-laws.values (record s { locals = locals_of s name result sections }) tells
+          values-have-types (record s { locals = locals_of s name result sections }) tells
           (subst (Every TellsKind) routine-fixed (routine-tells (record s { locals = locals_of s name result sections }) name result sections))
 
       behind-result : (o : Option (TypeSpec ℕ)) (vs : List DeclaredVariable) (x : List ℕ) → ((v : DeclaredVariable) → variable_named x vs ≡ Some v → HasValue v)
@@ -129,7 +129,7 @@ module _ (s : Scope) (types : (name : List ℕ) → IsToldType s name) (tells : 
 
     program-types : ValuesHaveTypes (record s { locals = program_locals s sections })
     program-types =
-        scope-laws.values (record s { locals = program_locals s sections }) tells
+        values-have-types (record s { locals = program_locals s sections }) tells
         (subst (Every TellsKind) program-fixed (members-tell (record s { locals = program_locals s sections }) 0 0 (sections_written sections)))
 
     module _ (rules : sections_faults (record s { locals = program_locals s sections }) h sections ≡ []) (well : Every (IsWellWritten (record s { locals = program_locals s sections })) (sections_written sections)) where

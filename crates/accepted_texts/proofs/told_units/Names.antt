@@ -20,7 +20,7 @@ use Rattle.st_rules.specs.Places.{an_enumeration, a_value_of, root_line, root_st
 use Rattle.st_rules.specs.Calls.{callee, callee_faults, is_on_super, heads, Matched, call_matches, first_match, later_matches, asked_by, matched_type, output_unsuited, call_without_result}
 use Rattle.st_rules.specs.Expressions.{line_of, is_untyped, front_asked, operand_asked, asked_behind, type_of, faults, row_faults, row_unsuited, operand_unsuited, along_faults, argument_faults, given_unsuited, called_root_faults, note_of_value, enumerator_target, enumerator_not_found, whole_target, qualified_target, part_target}
 use Rattle.st_unit_rules.specs.declared_names.Constants.{is_told, names_are_told, operands_are_told, arguments_are_told, no_constant_place, no_constant_part, no_constant_operand, no_constant_argument}
-use Rattle.constant_folding.proofs.constant_values.TypeLaws.{none-of, passes, conversion-called}
+use Rattle.accepted_texts.proofs.told_units.TypeLaws.{none-of, passes, conversion-called}
 use Rattle.resolution_order.specs.told_laws.ToldLaws.{Every}
 use Rattle.accepted_texts.proofs.unfolding_laws.ListLaws.{every_front, every_back}
 use Rattle.st_rules.proofs.Booleans.{and-both}

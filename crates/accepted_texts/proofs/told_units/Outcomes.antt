@@ -24,10 +24,9 @@ use Rattle.st_rules.specs.Literals.{holds, fits_type, int_faults, negative_fault
 use Rattle.st_rules.specs.Scope.{Scope}
 use Rattle.st_rules.specs.Calls.{a_conversion, heads, Head, names_input, names_output, callee_faults, matching_faults, positional_and_named_mixed, wrong_number_of_positional, named_unknown_or_twice, in_out_left_out, operand_parameter}
 use Rattle.st_unit_rules.specs.declared_names.Constants.{Outcome, comes_to, divides_by_zero, cannot_be_told, is_division, is_zero, both, if_true, if_false, operated, outcome_map, literal_outcome, duration_outcome, target_value, is_told, result_of}
-use Rattle.constant_folding.specs.constant_values.ValueLaws.{AsksForTold}
 use Rattle.accepted_texts.specs.told_units.Formed.{HaveNames}
 use Rattle.st_rules.proofs.Booleans.{and-both, both as both_true}
-use Rattle.constant_folding.proofs.constant_values.TypeLaws.{none-of, holds-not, passes}
+use Rattle.accepted_texts.proofs.told_units.TypeLaws.{AsksForTold, none-of, holds-not, passes}
 
 -- a value, or a zero divisor
 abbrev pub IsSettled : Outcome → Type 0

@@ -11,12 +11,12 @@ use Rattle.st_unit_rules.specs.declared_names.Variables.{Written, item_written, 
 use Rattle.st_rules.specs.Modifiers.{written_access}
 use Rattle.st_unit_rules.specs.declared_names.WrittenTypes.{type_written}
 use Rattle.st_unit_rules.specs.VariableRules.{Home, item_faults, heading_faults, section_faults, sections_faults, bad_constant}
-use Rattle.constant_folding.specs.constant_values.ValueLaws.{ValuesHaveTypes}
 use Rattle.resolution_order.specs.told_laws.ToldLaws.{Every}
 use Rattle.accepted_texts.proofs.unfolding_laws.ListLaws.{every_joined, every_one, every_means, every_mapped}
 use Rattle.accepted_texts.proofs.unfolding_laws.CycleLaws.{none_in, none_of_each}
 use Rattle.accepted_texts.proofs.told_units.Written.{item-parts}
 use Rattle.accepted_texts.proofs.told_units.Inner.{IsGoodWritten}
+use Rattle.accepted_texts.proofs.told_units.TypeLaws.{ValuesHaveTypes}
 
 abbrev item_named : Section ℕ → Item ℕ → Name → Written
 item_named s item n = record { sort = s.sort; constant = declares_constants s; access = section_access s.sort (written_access s.modifiers); name = n; item = item }

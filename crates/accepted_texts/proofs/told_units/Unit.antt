@@ -30,7 +30,6 @@ use Rattle.st_unit_rules.specs.DeclarationRules.{type_body_faults, global_faults
 use Rattle.st_unit_rules.specs.NameRules.{space_faults, part_names}
 use Rattle.st_unit_rules.specs.UnitRefusal.{BreaksNothing}
 use Rattle.st_unit_rules.specs.VariableRules.{of_globals, item_faults, bad_constant, initial_if_given}
-use Rattle.constant_folding.specs.constant_values.ValueLaws.{ValuesHaveTypes}
 use Rattle.resolution_order.specs.told_laws.ToldLaws.{Every, TellsKinds}
 use Rattle.resolution_order.proofs.told_laws.Telling.{told_laws}
 use Rattle.resolution_order.proofs.told_laws.Tells.{names-tell}
@@ -47,7 +46,8 @@ use Rattle.accepted_texts.proofs.told_units.Written.{written-told, constant-told
 use Rattle.accepted_texts.proofs.told_units.Acyclic.{all_of}
 use Rattle.accepted_texts.proofs.told_units.Rows.{Row, row-found, added-first, among_front, among_back, by-name, by-needs}
 use Rattle.accepted_texts.proofs.told_units.UnitRows.{KindOf, GlobalOf, types-rows, globals-rows}
-use Rattle.type_resolution.proofs.told_scopes.ScopeLaws.{scope-laws}
+use Rattle.accepted_texts.proofs.told_units.ScopeLaws.{values-have-types}
+use Rattle.accepted_texts.proofs.told_units.TypeLaws.{ValuesHaveTypes}
 
 module _ (decls : List (Decl ℕ)) where
   abbrev pub told_names : DeclaredNames
@@ -98,7 +98,7 @@ module _ (decls : List (Decl ℕ)) where
   tells = subst TellsKinds fixed (names-tell decls (unit_names decls))
 
   pub unit-types : ValuesHaveTypes (unit_scope decls (unit_names decls))
-  unit-types = scope-laws.values (unit_scope decls (unit_names decls)) tells tt
+  unit-types = values-have-types (unit_scope decls (unit_names decls)) tells tt
 
   -- ---- from declarations to names
 

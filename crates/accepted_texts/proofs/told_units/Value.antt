@@ -19,11 +19,10 @@ use Rattle.st_rules.specs.Scope.{Scope, type_qualifier}
 use Rattle.st_rules.specs.Places.{root_line, root_standing, too_many_selectors}
 use Rattle.st_rules.specs.Calls.{value_unsuited, a_conversion, callee, is_on_super, heads, first_match, later_matches, asked_by, call_matches, call_type, call_without_result, callee_faults}
 use Rattle.st_rules.specs.Expressions.{too_many_operators, line_of, is_untyped, front_asked, operand_asked, asked_behind, type_of, row_type, row_unsuited, operand_unsuited, faults, row_faults, along_faults, argument_faults, given_unsuited, called_root_faults, whole_target, note_of_value}
-use Rattle.st_unit_rules.specs.declared_names.Constants.{Outcome, comes_to, divides_by_zero, cannot_be_told, if_none, told_value, value_faults, constant_faults, zero_divisor, operated, kind_in, constant_value, row_value, operand_value, converted_value, conversion_asked, names_are_told, operands_are_told, arguments_are_told, no_constant_part, no_constant_operand, no_constant_argument}
-use Rattle.constant_folding.specs.constant_values.ValueLaws.{ValuesHaveTypes, AsksForTold}
+use Rattle.st_unit_rules.specs.declared_names.Constants.{Outcome, comes_to, divides_by_zero, cannot_be_told, if_none, told_value, value_faults, constant_faults, zero_divisor, operated, kind_in, constant_value, row_value, operand_value, converted_value, names_are_told, operands_are_told, arguments_are_told, no_constant_part, no_constant_operand, no_constant_argument}
 use Rattle.accepted_texts.specs.told_units.Formed.{HasNames, HaveNamesIn, HaveNames}
 use Rattle.accepted_texts.proofs.told_units.Outcomes.{IsSettled, operated-settled, mapped-settled, literal-settled, int-settled, negative-settled, time-settled, target-settled, first-operand}
-use Rattle.constant_folding.proofs.constant_values.TypeLaws.{none-of, asks-number, asks-of, asks-front, asks-operand, asks-anything, int-told, negative-told, literal-told, operation-told, unary-told, place-told, enumerator-told, conversion-called, conversion-type, operand-asked}
+use Rattle.accepted_texts.proofs.told_units.TypeLaws.{ValuesHaveTypes, AsksForTold, none-of, asks-number, asks-of, asks-front, asks-operand, asks-anything, int-told, negative-told, literal-told, operation-told, unary-told, place-told, enumerator-told, conversion-called, conversion-type, operand-asked}
 
 split : (a b : Bool) → (a && b) ≡ true → (a ≡ true) × (b ≡ true)
 split true b h = (refl, h)
@@ -182,7 +181,8 @@ module _ (s : Scope) where
       let w = none-of (a ++ b ++ c) d q.0 in
       record { called = w.1; given = q.1 }
 
-  given-settled : (r : Root ℕ) (ss : Selectors ℕ) (l : ℕ) (xs : Arguments ℕ) (a b : Elem) → callee s r ss ≡ a_conversion a b → KnownOperand xs → HaveNames xs → CallParts l r ss xs → IsSettled (operand_value s (Wanted (type.Elementary a)) xs)
+  given-settled : (r : Root ℕ) (ss : Selectors ℕ) (l : ℕ) (xs : Arguments ℕ) (a b : Elem) → callee s r ss ≡ a_conversion a b → KnownOperand xs → HaveNames xs → CallParts l r ss xs
+      → IsSettled (operand_value s (asked_by (first_match (call_matches s (callee s r ss) (heads xs)))) xs)
   given-settled r ss l xs a b e k n p =
       let f = sym (ap (λ c. callee_faults s l (is_on_super r ss) c (heads xs)) e) ∙ p.called in
       let o = first-operand s l (is_on_super r ss) a b xs n f in
@@ -193,7 +193,7 @@ module _ (s : Scope) where
       let g : argument_faults s ms (argument_then (Positional x) ys) ≡ [] = sym (ap (argument_faults s ms) o.2) ∙ p.given in
       let q = none-of (faults s (asked_by m) x) (given_unsuited s m x (type_of s (asked_by m) x)) (none-of (faults s (asked_by m) x ++ given_unsuited s m x (type_of s (asked_by m) x)) (argument_faults s (later_matches ms) ys) g).0 in
       let w = asks f x ys o.2 in
-      subst (λ zs. IsSettled (operand_value s (Wanted (type.Elementary a)) zs)) (sym o.2) ((k.value x ys o.2).value (Wanted (type.Elementary a)) tt (sym (ap (λ y. faults s y x) w) ∙ q.0))
+      subst (λ zs. IsSettled (operand_value s (asked_by m) zs)) (sym o.2) ((k.value x ys o.2).value (asked_by m) (subst AsksForTold (sym w) tt) q.0)
     where
       asks : callee_faults s l (is_on_super r ss) (a_conversion a b) (heads xs) ≡ [] → (x : Expression ℕ) (ys : Arguments ℕ) → xs ≡ argument_then (Positional x) ys
           → asked_by (first_match (call_matches s (callee s r ss) (heads xs))) ≡ Wanted (type.Elementary a)
@@ -206,8 +206,8 @@ module _ (s : Scope) where
   call-known l r ss xs a b e k n = record {
     kind = λ asked h f. ap (λ c. is_some (call_type c)) e ∙ conversion-type s a b;
     value = λ asked h f.
-        subst IsSettled (sym (ap (λ c. converted_value c (operand_value s (conversion_asked c) xs)) e))
-        (mapped-settled (converted b) (operand_value s (Wanted (type.Elementary a)) xs) (given-settled r ss l xs a b e k n (call-parts l r ss xs asked f)));
+        let x = operand_value s (asked_by (first_match (call_matches s (callee s r ss) (heads xs)))) xs in
+        subst IsSettled (sym (ap (λ c. converted_value c x) e)) (mapped-settled (converted b) x (given-settled r ss l xs a b e k n (call-parts l r ss xs asked f)));
   }
 
   -- ---- all together

@@ -40,7 +40,7 @@ use Rattle.accepted_texts.proofs.told_units.Names.{IsToldType}
 use Rattle.accepted_texts.proofs.told_units.Meant.{ClassesHave, name-means}
 use Rattle.accepted_texts.proofs.told_units.Inner.{IsWellWritten, members-rows}
 use Rattle.accepted_texts.proofs.told_units.Sections.{sections-good}
-use Rattle.type_resolution.proofs.told_scopes.ScopeLaws.{scope-laws}
+use Rattle.accepted_texts.proofs.told_units.ScopeLaws.{values-have-types}
 use Rattle.accepted_texts.proofs.told_units.Unit as unit
 use Rattle.accepted_texts.proofs.told_units.Classes.{bases, IsGoodClass, classes-told, classes-have}
 use Rattle.accepted_texts.specs.told_units.Formed.{IsFormedResult, IsFormedDeclaration}
@@ -298,7 +298,7 @@ module _ (decls : List (Decl ℕ)) where
         -- a class: its scope, and each of its variables
         pub class-told : (c : ℕ) (d : ClassDecl ℕ) → slice_get (classes_in decls) c ≡ Some d → AllTold (class_scope decls (unit_names decls) c)
         class-told c d e =
-            all-told (class_scope decls (unit_names decls) c) (scope-laws.values (class_scope decls (unit_names decls) c) (unit.tells decls) tt) types
+            all-told (class_scope decls (unit_names decls) c) (values-have-types (class_scope decls (unit_names decls) c) (unit.tells decls) tt) types
             (λ name. name-means (class_scope decls (unit_names decls) c) globals name (λ v q. absurd (none≢some q)) (have c d e false [] name))
 
         pub class-variables : (c : ℕ) (d : ClassDecl ℕ) → slice_get (classes_in decls) c ≡ Some d → Every IsToldVariable (class_declared decls (unit_names decls) c d).variables
@@ -306,7 +306,7 @@ module _ (decls : List (Decl ℕ)) where
             let s = class_scope decls (unit_names decls) c in
             let g = class-good c d e in
             rows-told s (sections_written (sections_in d.members)) (class_declared decls (unit_names decls) c d).variables (members-rows s _ _ (sections_written (sections_in d.members))) (class-told c d e)
-            (sections-good s (scope-laws.values s (unit.tells decls) tt) (class_home decls d.sort) (sections_in d.members) g.rules) g.well (classes-told decls types globals (unit.tells decls) class-good above c d e)
+            (sections-good s (values-have-types s (unit.tells decls) tt) (class_home decls d.sort) (sections_in d.members) g.rules) g.well (classes-told decls types globals (unit.tells decls) class-good above c d e)
 
         -- a method
         module _ (c : ℕ) (d : ClassDecl ℕ) (e : slice_get (classes_in decls) c ≡ Some d) (m : Method ℕ) (rules : method_faults decls c m ≡ []) (own : (i : ℕ) → needs_inner (sections_written m.sections) i ≡ false)

@@ -26,8 +26,7 @@ use Rattle.st_unit_rules.specs.declared_names.Variables.{Written, declares_const
 use Rattle.st_unit_rules.specs.declared_names.Declarations.{item_line}
 use Rattle.st_unit_rules.specs.Initials.{part_faults, count_parts, list_of_no_array, is_no_array, more_values_than_elements, element_given, list_of_no_fields, given_faults}
 use Rattle.st_unit_rules.specs.VariableRules.{Home, item_faults, may_hold_instances, instance_out_of_place, instance_of_abstract_class, bad_constant, is_no_constant_type, address_faults, may_have_address, external_faults, initial_if_given}
-use Rattle.constant_folding.specs.constant_values.ValueLaws.{ValuesHaveTypes, AsksForTold}
-use Rattle.constant_folding.proofs.constant_values.TypeLaws.{none-of, holds-not}
+use Rattle.accepted_texts.proofs.told_units.TypeLaws.{ValuesHaveTypes, AsksForTold, none-of, holds-not}
 use Rattle.resolution_order.specs.told_laws.ToldLaws.{Every}
 use Rattle.st_rules.proofs.Booleans.{true≢false}
 use Rattle.accepted_texts.proofs.unfolding_laws.ListLaws.{every_front, every_back}

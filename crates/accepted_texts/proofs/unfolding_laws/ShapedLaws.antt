@@ -5,7 +5,6 @@ use Rattle.st_types.specs.declared.st_type.StType.{StType}
 use Rattle.st_types.specs.declared.st_type.StType.TheVariants as type
 use Rattle.st_types.specs.declared.st_type.StType.TheOpen.{StType-F}
 use Rattle.st_types.specs.declared.elem.Elem.TheVariants as kind
-use Rattle.st_rules.specs.Kinds.{boolean}
 use Rattle.st_rules.specs.Expressions.{told}
 use Rattle.st_values.specs.Program.{Variable, Class, TypeEntry, Program, class_at, class_variables}
 use Rattle.st_values.specs.Value.{◌>>=◌}
@@ -19,10 +18,10 @@ pub record Shaped (f : StType → Option Shape) (t : StType) : Type 0 where
 abbrev pub ShapedVariable : (StType → Option Shape) → Variable → Type 0
 ShapedVariable f v = Shaped f v.kind
 
--- what is not told is shown as BOOL, which has a shape
-pub plain_shaped : (p : Program) (n : ℕ) → Shaped (shape_within p n) boolean
-plain_shaped p zero = record { shape = Elementary kind.Bool; is = ap (simple_shape p) (type.outs-Elementary kind.Bool) }
-plain_shaped p (suc n) = record { shape = Elementary kind.Bool; is = ap (shape_by p (shape_within p n)) (type.outs-Elementary kind.Bool) }
+-- what is not told is shown as DINT, which has a shape
+pub plain_shaped : (p : Program) (n : ℕ) → Shaped (shape_within p n) (type.Elementary kind.Dint)
+plain_shaped p zero = record { shape = Elementary kind.Dint; is = ap (simple_shape p) (type.outs-Elementary kind.Dint) }
+plain_shaped p (suc n) = record { shape = Elementary kind.Dint; is = ap (shape_by p (shape_within p n)) (type.outs-Elementary kind.Dint) }
 
 pub told_shaped : (p : Program) (n : ℕ) (o : Option StType) → ((t : StType) → o ≡ Some t → Shaped (shape_within p n) t) → Shaped (shape_within p n) (told o)
 unfolding told

@@ -13,8 +13,9 @@ ghost use Rattle.check_configurations.specs.program_instances.Programs.{HasProgr
 use crate::program_instances::programs::UnitPrograms;
 use check_regions::{InstancedProgram, TakenRegions};
 use plc_text::{Code, NoMemory, Text};
+use st_rules::told;
 use st_tree::{InstanceSpec, Marks, RegionDecl};
-use st_types::{Elem, StType};
+use st_types::StType;
 use std::alloc::Global;
 use symbol_table::unit_tables::UnitTables;
 
@@ -59,21 +60,20 @@ fn type_number(classes: usize, program: u32) -> Result<u32, NoMemory>
 }
 
 /// The type of the instances of the program with this number, as it is noted.
-#[tactic(auto, unfolding(st_rules::specs::Expressions::told))]
 fn type_of_program(classes: usize, program: Option<u32>) -> Result<StType, NoMemory>
     ensures { IfOk result (λ kind. kind ≡ expressions.told (option_map (λ k. type.Instance (classes + k)) program)) }
 {
     match program {
         Some(program) => {
             let number = type_number(classes, program)?;
-            Ok(StType::Instance(number))
+            Ok(told(Some(StType::Instance(number))))
         }
-        None => Ok(StType::Elementary(Elem::Bool)),
+        None => Ok(told(None)),
     }
 }
 
 /// Checks a program instance of a configuration: the least rule that its region breaks among those before it, at the line of PROGRAM, and
-/// that region, which is taken behind those. Where no program has its name, which breaks another rule, its type is noted as BOOL.
+/// that region, which is taken behind those. Where no program has its name, which breaks another rule, its type is noted as DINT.
 pub fn check_instance(
     alloc: Global,
     tables: &UnitTables<'_>,

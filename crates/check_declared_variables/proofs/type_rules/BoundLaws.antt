@@ -11,7 +11,7 @@ use Rattle.st_unit_rules.specs.declared_names.Constants.{if_none, constant_value
 use Rattle.st_unit_rules.specs.declared_names.WrittenTypes.{is_number_type, bound_value, bounds_faults, lies_above}
 use Rattle.st_unit_rules.specs.Initials.{outcome_target, with_note}
 use Rattle.check_initial_values.specs.Constant.{Constant}
-use Rattle.check_initial_values.specs.Faults.{IsConstant}
+use Rattle.check_initial_values.specs.Constants.{IsConstant}
 use Rattle.check_initial_values.specs.Worth.{noted}
 use Rattle.check_initial_values.proofs.Parts.{joined}
 use Rattle.check_declared_variables.specs.declared.type_rules.bounds.CheckedBound.{CheckedBound}

@@ -4,7 +4,7 @@ ghost use Rattle.std.specs.Prelude.{◌≡◌, IfOk};
 ghost use Rattle.st_tree.specs.Expression.{expression_of};
 ghost use Rattle.check_declared_variables.specs.type_rules.Private.Bounds.{bound_found, lies_above, IsBound, BoundChecks, IsDimension, DimensionChecks};
 
-use check_initial_values::constant_faults::{Constant, check_constant};
+use check_initial_values::st_check_expr::{Constant, check_constant};
 use check_initial_values::with_value;
 use plc_text::{Code, NoMemory};
 use st_operators::{index_fault, is_number};

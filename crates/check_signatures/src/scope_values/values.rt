@@ -5,8 +5,6 @@ ghost use Rattle.st_tree.specs.Expression.{expression_of};
 ghost use Rattle.st_rules.specs.Literals.{asked_of};
 ghost use Rattle.st_unit_rules.specs.declared_names.Constants as constants;
 
-use constant_faults::check_constant;
-use constant_folding::names_are_told;
 use default_values::initial_worths::ConstantValues;
 use name_resolution::Scope;
 use plc_text::NoMemory;
@@ -14,6 +12,7 @@ use st_operators::asked_of;
 use st_tree::Expr;
 use st_types::StType;
 use std::alloc::Global;
+use type_resolution::written_types::told_value;
 
 /// The values of constant expressions in a scope.
 #[derive(Clone, Copy)]
@@ -23,7 +22,7 @@ pub struct ScopeValues<'a> {
 }
 
 /// The value of an expression where a value of the type stands, if all its names are told and it breaks no rule but the limit of operators.
-fn told_value(
+fn value_of_kind(
     alloc: Global,
     s: &Scope<'_>,
     kind: &StType,
@@ -31,13 +30,10 @@ fn told_value(
 ) -> Result<Option<i128>, NoMemory>
     ensures { IfOk result (λ v. v ≡ constants.told_value s.now (asked_of (Some kind.now)) (expression_of e.now)) }
 {
-    if !names_are_told(s, e) {
-        return Ok(None);
-    }
     let wanted = kind.copy(alloc)?;
     let asked = asked_of(Some(wanted));
-    let constant = check_constant(alloc, s, e, &asked)?;
-    Ok(constant.number)
+    let value = told_value(alloc, s, e, &asked)?;
+    Ok(value)
 }
 
 impl ConstantValues for ScopeValues<'_> {
@@ -46,7 +42,7 @@ impl ConstantValues for ScopeValues<'_> {
     fn told_value(&self, kind: &StType, e: &Expr<u32>) -> Result<Option<i128>, NoMemory>
         ensures { IfOk result (λ v. v ≡ constants.told_value self.now.scope.now (asked_of (Some kind.now)) (expression_of e.now)) }
     {
-        let value = told_value(self.alloc, self.scope, kind, e)?;
+        let value = value_of_kind(self.alloc, self.scope, kind, e)?;
         Ok(value)
     }
 }

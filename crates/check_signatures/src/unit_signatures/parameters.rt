@@ -1,7 +1,6 @@
 //! The parameters of a routine, with numbers for what their initial values are worth.
 
 ghost use Rattle.std.specs.Prelude.{◌≡◌, [], ◌++◌, map, flat_map, IfOk, OnOk};
-ghost use Rattle.constant_folding.specs.constant_values.ValueLaws.{ValuesHaveTypes};
 ghost use Rattle.check_signatures.specs.unit_signatures.Private.Adds.{Adds};
 ghost use Rattle.check_signatures.specs.unit_signatures.Private.Parameters as words;
 
@@ -114,7 +113,6 @@ fn add_item(
     sort: SectionSort,
     item: &Item<u32>,
 ) -> Result<(), NoMemory>
-    requires { ValuesHaveTypes s.now }
     ensures { OnOk result (Adds words.parameter_tells (words.AreWeighed weighed.now) table.old table.new list.old list.new (words.item_parameters weighed.now s.now sort item.now)) }
 {
     let kind = type_written(alloc, s, &item.kind)?;
@@ -132,7 +130,6 @@ fn add_items(
     sort: SectionSort,
     items: &[Item<u32>],
 ) -> Result<(), NoMemory>
-    requires { ValuesHaveTypes s.now }
     ensures { OnOk result (Adds words.parameter_tells (words.AreWeighed weighed.now) table.old table.new list.old list.new (flat_map (words.item_parameters weighed.now s.now sort) items.now)) }
 {
     for item in items {
@@ -156,7 +153,6 @@ fn add_section(
     list: &mut Items<Parameter<u32>>,
     section: &Section<u32>,
 ) -> Result<(), NoMemory>
-    requires { ValuesHaveTypes s.now }
     ensures { OnOk result (Adds words.parameter_tells (words.AreWeighed weighed.now) table.old table.new list.old list.new (words.section_parameters weighed.now s.now section.now)) }
 {
     if !has_parameters(section) {
@@ -175,7 +171,6 @@ pub fn parameters(
     s: &Scope<'_>,
     sections: &[Section<u32>],
 ) -> Result<Items<Parameter<u32>>, NoMemory>
-    requires { ValuesHaveTypes s.now }
     ensures { IfOk result (λ list. Adds words.parameter_tells (words.AreWeighed weighed.now) table.old table.new [] list (flat_map (words.section_parameters weighed.now s.now) sections.now)) }
 {
     let mut list = Items::new(alloc);

@@ -1,7 +1,6 @@
 //! The signature of a method, in the scope of its locals.
 
 ghost use Rattle.std.specs.Prelude.{◌≡◌, [], IfOk};
-ghost use Rattle.constant_folding.specs.constant_values.ValueLaws.{ValuesHaveTypes};
 ghost use Rattle.st_rules.specs.Signatures as signatures;
 ghost use Rattle.check_signatures.specs.unit_signatures.Private.Parameters as words;
 ghost use Rattle.check_signatures.specs.unit_signatures.Private.Routines.{TellsRoutine, TellsSignature};
@@ -22,7 +21,6 @@ fn result_in(
     s: &Scope<'_>,
     written: &Option<TypeSpec<u32>>,
 ) -> Result<ResultType, NoMemory>
-    requires { ValuesHaveTypes s.now }
     ensures { IfOk result (λ r. r ≡ words.result_in s.now written.now) }
 {
     match written {
@@ -43,7 +41,6 @@ fn signature(
     written: &Option<TypeSpec<u32>>,
     sections: &[Section<u32>],
 ) -> Result<Signature<u32>, NoMemory>
-    requires { ValuesHaveTypes s.now }
     ensures { IfOk result (λ x. TellsSignature weighed.now table.old table.new s.now written.now sections.now x) }
 {
     let outcome = result_in(alloc, s, written)?;

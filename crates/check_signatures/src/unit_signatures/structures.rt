@@ -1,7 +1,6 @@
 //! The structures that a unit declares, with the types of their fields.
 
 ghost use Rattle.std.specs.Prelude.{◌≡◌, [], ◌∷◌, ◌++◌, IfOk, OnOk};
-ghost use Rattle.constant_folding.specs.constant_values.ValueLaws.{ValuesHaveTypes};
 ghost use Rattle.st_unit_rules.specs.declared_names.Declarations.{entries_in};
 ghost use Rattle.default_values.specs.structure_worths.Unweighed.{AreDeclared};
 ghost use Rattle.check_signatures.specs.unit_signatures.Private.Structures.{AddsEntries, DeclaresGroup, DeclaresGroups, groups_in};
@@ -19,7 +18,6 @@ fn group<'a>(
     s: &Scope<'_>,
     declared: &'a FieldGroup<u32>,
 ) -> Result<Group<'a>, NoMemory>
-    requires { ValuesHaveTypes s.now }
     ensures { IfOk result (λ g. DeclaresGroup s.now declared.now g) }
 {
     let kind = type_written(alloc, s, &declared.kind)?;
@@ -35,7 +33,6 @@ fn structure<'a>(
     s: &Scope<'_>,
     groups: &'a [FieldGroup<u32>],
 ) -> Result<DeclaredStructure<'a>, NoMemory>
-    requires { ValuesHaveTypes s.now }
     ensures { IfOk result (λ x. DeclaresGroups s.now groups.now x.groups.items) }
 {
     let mut list = Vec::new(alloc);
@@ -52,7 +49,6 @@ fn entry<'a>(
     s: &Scope<'_>,
     body: &'a TypeBody<u32>,
 ) -> Result<DeclaredStructure<'a>, NoMemory>
-    requires { ValuesHaveTypes s.now }
     ensures { IfOk result (λ x. DeclaresGroups s.now (groups_in body.now) x.groups.items) }
 {
     match body {
@@ -75,7 +71,6 @@ fn add_entries<'a>(
     list: &mut Vec<DeclaredStructure<'a>>,
     entries: &'a [TypeDecl<u32>],
 ) -> Result<(), NoMemory>
-    requires { ValuesHaveTypes s.now }
     ensures { OnOk result (AddsEntries s.now list.old.items list.new.items entries.now) }
 {
     for declared in entries {
@@ -91,7 +86,6 @@ fn add_declaration<'a>(
     list: &mut Vec<DeclaredStructure<'a>>,
     decl: &'a Decl<u32>,
 ) -> Result<(), NoMemory>
-    requires { ValuesHaveTypes s.now }
     ensures { OnOk result (AddsEntries s.now list.old.items list.new.items (entries_in (decl.now ∷ []))) }
 {
     match decl {
@@ -114,7 +108,6 @@ pub fn declared_structures<'a>(
     s: &Scope<'_>,
     decls: &'a [Decl<u32>],
 ) -> Result<Vec<DeclaredStructure<'a>>, NoMemory>
-    requires { ValuesHaveTypes s.now }
     ensures { IfOk result (λ xs. AreDeclared s.now (entries_in decls.now) xs.items) }
 {
     let mut list = Vec::new(alloc);

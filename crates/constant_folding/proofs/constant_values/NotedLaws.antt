@@ -1,9 +1,8 @@
 -- The values of typed trees by their variants, and rows one by one.
 use Rattle.std.proofs.Common.{◌≡◌, ℕ, ◌+◌, ◌<◌, ◌≤◌, Bool, true, false, List, [], ◌∷◌, length, get_or, drop, refl, sym, ap, ◌∙◌}
-use Rattle.std.specs.Prelude.{pos, neg_ℤ, Some}
+use Rattle.std.specs.Prelude.{pos, neg_ℤ, Option}
 use Rattle.plc_num.specs.Arithmetic.{difference}
 use Rattle.plc_num.specs.Bits.{complement}
-use Rattle.plc_num.specs.Conversion.{converted}
 use Rattle.st_types.specs.declared.elem.Elem.{Elem}
 use Rattle.st_tree.specs.declared.expression.Argument.{Argument as CodeArgument}
 use Rattle.st_tree.specs.declared.expression.Argument.TheVariants as argument
@@ -11,16 +10,17 @@ use Rattle.st_tree.specs.declared.expression.Expr.{Expr}
 use Rattle.st_tree.specs.declared.expression.Expr.TheVariants as code
 use Rattle.st_tree.specs.declared.expression.Literal.{Literal}
 use Rattle.st_tree.specs.declared.expression.Place.{Place as CodePlace}
+use Rattle.st_tree.specs.declared.expression.Selector.{Selector as CodeSelector}
 use Rattle.st_tree.specs.declared.expression.Tail.{Tail}
 use Rattle.st_tree.specs.declared.program.Note.{Note}
 use Rattle.st_tree.specs.Duration.{milliseconds}
 use Rattle.st_tree.specs.Number.{number_of}
-use Rattle.st_tree.specs.Expression.{Expression, Int, Typed, Time, True, False, Null, Place, Call, Enumerator, Ref, Now, Paren, Not, Negate, Chain, Argument, Positional, Input, Output, Arguments, argument_then, Tails, expression_of, argument_of, arguments_of, tail_of, tail_of-is, tails_of, argument_of-Positional, argument_of-Input, argument_of-Output, expression_of-Int, expression_of-Typed, expression_of-Time, expression_of-True, expression_of-False, expression_of-Null, expression_of-Place, expression_of-Call, expression_of-Enumerator, expression_of-Ref, expression_of-Now, expression_of-Paren, expression_of-Not, expression_of-Negate, expression_of-Chain}
+use Rattle.st_tree.specs.Expression.{Expression, Int, Typed, Time, True, False, Null, Place, Call, Enumerator, Ref, Now, Paren, Not, Negate, Chain, Argument, Positional, Input, Output, Arguments, argument_then, Tails, selectors_of, place_of, place_of-is, expression_of, argument_of, arguments_of, tail_of, tail_of-is, tails_of, argument_of-Positional, argument_of-Input, argument_of-Output, expression_of-Int, expression_of-Typed, expression_of-Time, expression_of-True, expression_of-False, expression_of-Null, expression_of-Place, expression_of-Call, expression_of-Enumerator, expression_of-Ref, expression_of-Now, expression_of-Paren, expression_of-Not, expression_of-Negate, expression_of-Chain}
 use Rattle.st_rules.proofs.ListLaws.{drop-at, drop-end}
 use Rattle.st_rules.specs.Expressions.{is_int}
 use Rattle.st_rules.specs.Literals.{literal_number}
-use Rattle.st_unit_rules.specs.declared_names.Constants.{Outcome, comes_to, cannot_be_told, kind_in, literal_outcome, duration_outcome, target_value, operated, outcome_map}
-use Rattle.constant_folding.specs.constant_values.Noted.{kind_noted, noted_value, noted_row, noted_operand}
+use Rattle.st_unit_rules.specs.declared_names.Constants.{Outcome, comes_to, cannot_be_told, literal_outcome, duration_outcome, target_value, operated, outcome_map}
+use Rattle.constant_folding.specs.constant_values.Noted.{kind_noted, conversion_at, converted_by, noted_value, noted_row, noted_operand}
 use Rattle.constant_folding.specs.constant_values.Private.Operations.{given_value}
 
 -- ---- parts without parts
@@ -60,9 +60,13 @@ module _ (r : Outcome) (e : Expr Note) (n : Note) where
   chain_arm i inner ts us x h g f m k =
       seen r e _ (ap expression_of h ∙ expression_of-Chain n i ts) (k ∙ ap (λ y. noted_row y (tails_of us)) (m ∙ ap (λ x. noted_value (expression_of x)) g) ∙ ap (λ ys. noted_row (noted_value (expression_of i)) (tails_of ys)) f)
 
-  pub call_arm : (p : CodePlace Note) (xs ys : List (CodeArgument Note)) (d : Elem) (x : Outcome) → e ≡ code.Call n p xs → ys ≡ xs → x ≡ noted_operand (arguments_of ys) → d ≡ kind_noted n → r ≡ outcome_map (converted d) x → r ≡ noted_value (expression_of e)
-  call_arm p xs ys d x h g f m k =
-      seen r e _ (ap expression_of h ∙ expression_of-Call n p xs) (k ∙ ap (λ y. outcome_map (converted y) x) m ∙ ap (outcome_map (converted (kind_noted n))) (f ∙ ap (λ zs. noted_operand (arguments_of zs)) g))
+  pub call_arm : (p : CodePlace Note) (ss : List (CodeSelector Note)) (xs ys : List (CodeArgument Note)) (c : Option (Elem × Elem)) (x : Outcome) → e ≡ code.Call n p xs → ss ≡ p.selectors → ys ≡ xs → x ≡ noted_operand (arguments_of ys) → c ≡ conversion_at p.root (selectors_of ss)
+      → r ≡ converted_by c x → r ≡ noted_value (expression_of e)
+  call_arm p ss xs ys c x h q g f m k =
+      seen r e _ (ap expression_of h ∙ expression_of-Call n p xs)
+      (k
+      ∙ ap (λ d. converted_by d x) (m ∙ ap (λ zs. conversion_at p.root (selectors_of zs)) q ∙ ap (λ y. conversion_at y.0 y.1) (sym (place_of-is p)))
+      ∙ ap (converted_by (conversion_at (place_of p).0 (place_of p).1)) (f ∙ ap (λ zs. noted_operand (arguments_of zs)) g))
 
 pub value_true : (n : Note) → comes_to (pos 1) ≡ noted_value (expression_of (code.True n))
 value_true n = ap noted_value (sym (expression_of-True n))

@@ -2,7 +2,7 @@
 
 ghost use Rattle.constant_folding.specs.constant_values.ValueLaws.{ValueLaws};
 
-/// The value of a typed tree is that of the expression, where all its names are told and it breaks no rule of expressions.
+/// The value of the typed tree is that of the expression, also of one that breaks rules or whose names are not told.
 pub fn value_laws()
     ensures { ValueLaws }
 {}

@@ -2,7 +2,7 @@
 
 ghost use Rattle.std.specs.Prelude.{◌≡◌, false, Some, MatchOption};
 ghost use Rattle.st_tree.specs.declared.program.Note.{Note as ANote};
-ghost use Rattle.st_tree.specs.Expression.{Int, Negate, expression_of, argument_of, arguments_of, tails_of};
+ghost use Rattle.st_tree.specs.Expression.{Int, Negate, expression_of, argument_of, arguments_of, selectors_of, tails_of};
 ghost use Rattle.st_rules.specs.Expressions as expressions;
 ghost use Rattle.st_unit_rules.specs.declared_names.Constants as constants;
 ghost use Rattle.constant_folding.specs.constant_values.Noted as noted;
@@ -14,8 +14,9 @@ use crate::constant_values::operations::{
     complemented, converted, negated, operated, target_value,
 };
 use crate::constant_values::outcome::Outcome;
+use check_places::conversion_named;
 use plc_text::Text;
-use st_tree::{Argument, Expr, Note, Tail};
+use st_tree::{Argument, Expr, Note, Root, Selector, Tail};
 use st_types::{Elem, StType};
 
 /// The kind of an operation.
@@ -30,6 +31,37 @@ fn kind_in(kind: &StType) -> Elem
         StType::Instance(_) => Elem::Dint,
         StType::Reference(_) => Elem::Dint,
         StType::Interface(_) => Elem::Dint,
+    }
+}
+
+/// The conversion that a place begins with, by its name.
+fn root_conversion(root: &Root<Note>) -> Option<(Elem, Elem)>
+    ensures { result ≡ noted.root_conversion root.now }
+{
+    match root {
+        Root::Name(_, name) => conversion_named(name),
+        Root::This(_) => None,
+        Root::Super(_) => None,
+    }
+}
+
+/// The conversion that a place is as a whole, by its name.
+fn conversion_at(root: &Root<Note>, selectors: &[Selector<Note>]) -> Option<(Elem, Elem)>
+    ensures { result ≡ noted.conversion_at root.now (selectors_of selectors.now) }
+{
+    match selectors.first() {
+        Some(_) => None,
+        None => root_conversion(root),
+    }
+}
+
+/// What a conversion gives for its operand, and any other call: nothing that can be told.
+fn converted_by(conversion: Option<(Elem, Elem)>, operand: Outcome) -> Outcome
+    ensures { outcome result ≡ noted.converted_by conversion (outcome operand) }
+{
+    match conversion {
+        Some((_, to)) => converted(to, operand),
+        None => Outcome::Untold,
     }
 }
 
@@ -72,9 +104,11 @@ pub fn noted_value(tree: &Expr<Note>) -> Outcome
         Expr::False(_) => Outcome::Number(0),
         Expr::Null(_) => Outcome::Number(0),
         Expr::Place(note, _) => target_value(&note.target),
-        Expr::Call(note, _, arguments) => {
-            let operand = operand_value(arguments.as_slice());
-            converted(kind_in(&note.kind), operand)
+        Expr::Call(_, place, arguments) => {
+            let selectors = place.selectors.as_slice();
+            let arguments = arguments.as_slice();
+            let operand = operand_value(arguments);
+            converted_by(conversion_at(&place.root, selectors), operand)
         }
         Expr::Enumerator(note, _, _, _) => target_value(&note.target),
         Expr::Ref(_, _) => Outcome::Untold,

@@ -1,7 +1,7 @@
 -- What a hint has to say of a graph's groups.
 use Rattle.std.specs.Prelude.{◌≡◌, ℕ, ◌+◌, ◌&&◌, ◌||◌, nat_eq, nat_lt, Bool, true, false, List, [], ◌∷◌, Option, Some, None}
 use Rattle.std.specs.List.{slice_get, list_all}
-use Rattle.graph_cycles.specs.declared.graph.Edge.{Edge}
+use Rattle.graph_reach.specs.declared.threads.Edge.{Edge}
 use Rattle.graph_cycles.specs.declared.places.Node.{Node}
 
 abbrev pub falls_by : Option Node → Option Node → Bool

@@ -1,6 +1,6 @@
 -- Ways along the edges of a graph, and what marks say of them.
 use Rattle.std.specs.Prelude.{◌≡◌, ℕ, ◌+◌, Bool, true, false, List, [], ◌∷◌}
-use Rattle.graph_cycles.specs.declared.graph.Edge.{Edge}
+use Rattle.graph_reach.specs.declared.threads.Edge.{Edge}
 use Rattle.graph_cycles.specs.Graph.{HasEdge, marked}
 
 -- a way of one edge or more

@@ -26,7 +26,7 @@ use Rattle.st_rules.specs.Places.{an_enumeration, a_value_of, part_type, root_li
 use Rattle.st_rules.specs.Calls.{a_conversion, callee, name_callee, is_on_super, conversion_named, heads, Matched, first_match, later_matches, asked_by, binds, matched_type, value_unsuited, bound_to_another_type, bound_no_variable, is_bindable_place, output_unsuited, call_matches, callee_faults, call_without_result, call_type}
 use Rattle.st_rules.specs.Expressions.{is_untyped, front_asked, operand_asked, asked_behind, type_of, row_type, note_of_value, whole_target, qualified_target, part_target, value_target, is_conversion, faults, row_faults, along_faults, argument_faults, called_root_faults, given_unsuited, enumerator_type, value_type, enumerator_target, enumerator_not_found, operand_unsuited, row_unsuited, line_of}
 use Rattle.st_unit_rules.specs.declared_names.WrittenTypes.{bound_value, is_number_type}
-use Rattle.st_unit_rules.specs.declared_names.Constants.{Outcome, if_none, told_value, zero_divisor, target_value, is_told, constant_value, row_value, operand_value, conversion_asked, converted_value, operated, kind_in, outcome_map, no_constant_part, no_constant_operand, no_constant_argument, no_constant_place, is_constant_place, is_constant_meaning, names_are_told, operands_are_told, arguments_are_told}
+use Rattle.st_unit_rules.specs.declared_names.Constants.{Outcome, if_none, told_value, zero_divisor, target_value, is_told, constant_value, row_value, operand_value, converted_value, operated, kind_in, outcome_map, no_constant_part, no_constant_operand, no_constant_argument, no_constant_place, is_constant_place, is_constant_meaning, names_are_told, operands_are_told, arguments_are_told}
 
 -- a scope in which other names and other locals are told
 abbrev pub more : Scope → DeclaredNames → List DeclaredVariable → Scope
@@ -412,9 +412,10 @@ module _ (s : Scope) (names : DeclaredNames) (locals : List DeclaredVariable) wh
             ∙ x.broken (call_matches s (a_conversion c.0 c.1) (heads xs)) ∙ sym (ap (λ y. argument_faults s (call_matches s y (heads xs)) xs) f)))
             (ap (λ y. call_without_result l y) f' ∙ sym (ap (λ y. call_without_result l y) f));
         values = λ asked.
-            ap (λ y. converted_value y (operand_value (more s names locals) (conversion_asked y) xs)) f'
-            ∙ ap (λ v. converted_value (a_conversion c.0 c.1) v) (x.values (conversion_asked (a_conversion c.0 c.1)))
-            ∙ sym (ap (λ y. converted_value y (operand_value s (conversion_asked y) xs)) f);
+            ap (λ y. converted_value y (operand_value (more s names locals) (asked_by (first_match (call_matches (more s names locals) y (heads xs)))) xs)) f'
+            ∙ ap (λ ms. converted_value (a_conversion c.0 c.1) (operand_value (more s names locals) (asked_by (first_match ms)) xs)) (matches-same c.0 c.1 xs)
+            ∙ ap (λ v. converted_value (a_conversion c.0 c.1) v) (x.values (asked_by (first_match (call_matches s (a_conversion c.0 c.1) (heads xs)))))
+            ∙ sym (ap (λ y. converted_value y (operand_value s (asked_by (first_match (call_matches s y (heads xs)))) xs)) f);
         parts = ap (λ fs. if is_some (conversion_named name) then fs else at E05 l) x.parts;
         told = x.told;
         bindable = refl;

@@ -2,6 +2,7 @@
 //! depends on it.
 
 use crate::telling_groups::groups::Group;
+use graph_reach::{Edge, left_order};
 use plc_text::{NoMemory, Text};
 use st_tree::{
     Argument, ArraySpec, Bounds, ClassDecl, Expr, Init, Item, Name, Place, Root, SimpleSpec, Tail,
@@ -14,8 +15,6 @@ use std::collections::HashMap;
 /// So many bases of a class are asked for a name, which is as deep as bases may be.
 const BASES: usize = 64;
 
-const NONE: usize = usize::MAX;
-
 type Places = HashMap<Text, usize>;
 
 /// Where names are told: types and globals by the places of their groups, classes by their numbers.
@@ -27,13 +26,6 @@ struct Known {
     /// The constants of each class.
     members: Vec<Places>,
     bases: Vec<Option<usize>>,
-}
-
-/// A group that needs another one.
-#[derive(Clone, Copy)]
-struct Edge {
-    from: usize,
-    to: usize,
 }
 
 fn add_first(alloc: Global, table: &mut Places, name: &Text, place: usize) -> Result<(), NoMemory> {
@@ -348,6 +340,7 @@ fn add_needed(
     Ok(())
 }
 
+/// An edge from each group to each that it needs.
 fn edges_of(alloc: Global, groups: &[Group<'_>]) -> Result<Vec<Edge>, NoMemory> {
     let known = know(alloc, groups)?;
     let mut edges = Vec::new(alloc);
@@ -355,78 +348,6 @@ fn edges_of(alloc: Global, groups: &[Group<'_>]) -> Result<Vec<Edge>, NoMemory> 
         add_needed(&known, place, group, &mut edges)?;
     }
     Ok(edges)
-}
-
-/// The edges at each node: the first one, and behind each edge the next.
-#[derive(Drop)]
-struct Threads {
-    first: Vec<usize>,
-    next: Vec<usize>,
-}
-
-impl Threads {
-    fn new(alloc: Global, count: usize, edges: &[Edge]) -> Result<Threads, NoMemory> {
-        let mut first: Vec<usize> = vec![in alloc; NONE; count]?;
-        let mut next: Vec<usize> = vec![in alloc; NONE; edges.len()]?;
-        for (k, edge) in edges.iter().enumerate() {
-            if edge.from < first.len() && k < next.len() {
-                next[k] = first[edge.from];
-                first[edge.from] = k;
-            }
-        }
-        Ok(Threads { first, next })
-    }
-
-    /// The next edge at the node, which is then done with.
-    fn take(&mut self, node: usize) -> Option<usize> {
-        if node >= self.first.len() {
-            return None;
-        }
-        let k = self.first[node];
-        if k >= self.next.len() {
-            return None;
-        }
-        self.first[node] = self.next[k];
-        Some(k)
-    }
-}
-
-/// The nodes in the order in which a search leaves them, each behind those to which its edges lead, but on cycles.
-fn left_order(alloc: Global, count: usize, edges: &[Edge]) -> Result<Vec<usize>, NoMemory> {
-    let mut threads = Threads::new(alloc, count, edges)?;
-    let mut seen: Vec<bool> = vec![in alloc; false; count]?;
-    let mut stack: Vec<usize> = Vec::new(alloc);
-    let mut left: Vec<usize> = Vec::new(alloc);
-    let mut root: usize = 0;
-    let turns = count.saturating_add(count).saturating_add(count);
-    for _ in 0..turns.saturating_add(edges.len()) {
-        match stack.pop() {
-            None => {
-                if root >= seen.len() {
-                    break;
-                }
-                if !seen[root] {
-                    seen[root] = true;
-                    stack.push(root)?;
-                }
-                root += 1;
-            }
-            Some(top) => match threads.take(top) {
-                None => left.push(top)?,
-                Some(k) => {
-                    stack.push(top)?;
-                    if k < edges.len() {
-                        let to = edges[k].to;
-                        if to < seen.len() && !seen[to] {
-                            seen[to] = true;
-                            stack.push(to)?;
-                        }
-                    }
-                }
-            },
-        }
-    }
-    Ok(left)
 }
 
 /// The places of the groups, each behind those that it needs, but on cycles.

@@ -20,13 +20,13 @@ use Rattle.st_tree.specs.Duration.{milliseconds}
 use Rattle.st_tree.specs.Expression.{Expression, Int, Typed, Time, True, False, Null, Place, Call, Enumerator, Ref, Now, Paren, Not, Negate, Chain, Field, Selectors, no_selectors, selector_then, Positional, Input, Output, Arguments, no_arguments, argument_then, Tails, no_tails, tail_then}
 use Rattle.st_tree.specs.Number.{number_of}
 use Rattle.st_rules.specs.declared.asked.Asked.{Asked}
-use Rattle.st_rules.specs.declared.asked.Asked.TheVariants.{Anything, Wanted}
+use Rattle.st_rules.specs.declared.asked.Asked.TheVariants.{Anything}
 use Rattle.st_rules.specs.Faults.{Faults, at, when}
 use Rattle.st_rules.specs.Kinds.{is_arithmetic, operation_type, unary_type, takes_not, takes_minus}
 use Rattle.st_rules.specs.Literals.{number_asked, literal_number}
 use Rattle.st_rules.specs.Scope.{Scope, Meant, a_variable, an_enumerator, sought, type_qualifier, dot_qualifier}
 use Rattle.st_rules.specs.Places.{root_line, qualifies}
-use Rattle.st_rules.specs.Calls.{Callee, a_conversion, callee, value_unsuited}
+use Rattle.st_rules.specs.Calls.{Callee, a_conversion, callee, heads, first_match, asked_by, call_matches, value_unsuited}
 use Rattle.st_rules.specs.Expressions.{line_of, is_untyped, front_asked, operand_asked, asked_behind, type_of, note_of_value, whole_target, is_conversion, faults, too_many_operators}
 
 -- what a constant expression comes to
@@ -115,10 +115,6 @@ target_value (target.Constant z) = comes_to z
 target_value (target.Enumerator k) = comes_to (pos k)
 target_value _ = cannot_be_told
 
-abbrev pub conversion_asked : Callee → Asked
-conversion_asked (a_conversion a b) = Wanted (type.Elementary a)
-conversion_asked _ = Anything
-
 abbrev pub converted_value : Callee → Outcome → Outcome
 converted_value (a_conversion a b) x = outcome_map (converted b) x
 converted_value _ x = cannot_be_told
@@ -143,7 +139,9 @@ module _ (s : Scope) where
     constant_value asked (False l) = comes_to (pos 0)
     constant_value asked (Null l) = comes_to (pos 0)
     constant_value asked (Place l r ss) = target_value (whole_target s r ss)
-    constant_value asked (Call l r ss xs) = converted_value (callee s r ss) (operand_value (conversion_asked (callee s r ss)) xs)
+    constant_value asked (Call l r ss xs) =
+        let called = callee s r ss in
+        converted_value called (operand_value (asked_by (first_match (call_matches s called (heads xs)))) xs)
     constant_value asked (Enumerator l t k name) = target_value (note_of_value s (type_qualifier s t) name)
     constant_value asked (Ref l r ss) = cannot_be_told
     constant_value asked (Now l) = cannot_be_told

@@ -1,5 +1,5 @@
--- Scopes of a unit, and lists that items give one after the other.
-use Rattle.std.proofs.Common.{◌≡◌, ℕ, ◌+◌, ◌<◌, ◌≤◌, Bool, true, false, List, [], ◌∷◌, ◌++◌, map, drop, length, get_or, Option, refl, sym, ap, ◌∙◌, subst, append-nil}
+-- Lists that items give one after the other, and what a unit declares.
+use Rattle.std.proofs.Common.{◌≡◌, ℕ, ◌+◌, ◌<◌, ◌≤◌, Bool, true, false, List, [], ◌∷◌, ◌++◌, map, drop, length, get_or, Option, refl, sym, ap, ◌∙◌, append-nil}
 use Rattle.std.specs.Prelude.{if◌then◌else◌, filter}
 use Rattle.std.proofs.lemmas.List.{append_assoc, map-append}
 use Rattle.st_tree.specs.declared.declaration.Member.{Member}
@@ -20,22 +20,13 @@ use Rattle.st_rules.specs.declared.names.DeclaredRoutine.{DeclaredRoutine}
 use Rattle.st_rules.specs.declared.names.DeclaredGlobal.{DeclaredGlobal}
 use Rattle.st_rules.specs.Classes.{classes_in, methods_in}
 use Rattle.st_rules.specs.Interfaces.{interfaces_in}
-use Rattle.st_rules.specs.Scope.{Scope}
 use Rattle.st_rules.proofs.ListLaws.{drop-at, drop-end}
 use Rattle.st_unit_rules.specs.declared_names.Declarations.{entries_in}
 use Rattle.st_unit_rules.specs.declared_names.UnitNames.{types_declared, parts_declared, method_declared, interface_declared, globals_from, names_from, locals_of, result_written, routine_declared}
-use Rattle.resolution_order.specs.told_laws.ToldLaws.{Every, TellsKind}
-use Rattle.resolution_order.proofs.told_laws.Tells.{locals-of-tell}
-use Rattle.constant_folding.specs.constant_values.ValueLaws.{ValuesHaveTypes}
-use Rattle.type_resolution.proofs.told_locals.ScopeLaws.{scope-laws}
 use Rattle.type_resolution.specs.told_locals.Around.{scope_around}
 use Rattle.type_resolution.specs.declared.told_locals.around.Around.{Around}
 use Rattle.symbol_table.specs.declared.unit_names.known.Known.{Known}
-use Rattle.symbol_table.specs.unit_names.Private.Known.{scope_in, within, IsKnown, decls_of, names_of, classes_from}
-
--- the values of constants have types in the scopes of a unit
-pub known_values : (k : Known) (c : Option ℕ) (m : Bool) (s : Scope) → IsKnown k → s ≡ scope_in k c m → ValuesHaveTypes s
-known_values k c m s h e = subst ValuesHaveTypes (sym e) (scope-laws.values (scope_in k c m) h.kinds tt)
+use Rattle.symbol_table.specs.unit_names.Private.Known.{within, decls_of, names_of, classes_from}
 
 module _ {X Y : Type 0} (gives : List X → List Y) where
   pub split_next : ((x : X) (xs : List X) → gives (x ∷ xs) ≡ gives (x ∷ []) ++ gives xs) → (xs : List X) (i : ℕ) (x : X) (old new : List Y) → i < length xs → x ≡ get_or xs i x → new ≡ old ++ gives (x ∷ [])
@@ -113,9 +104,6 @@ all_declared k ds types parts classes interfaces globals e t p c i g = whole
 -- ---- routines
 
 module _ (a : Around) (name : List ℕ) (result : Option (TypeSpec ℕ)) (ss : List (Section ℕ)) (vs : List DeclaredVariable) (e : vs ≡ locals_of (scope_around a) name result ss) where
-  pub locals_tell : Every TellsKind vs
-  locals_tell = subst (Every TellsKind) (sym e) (locals-of-tell (scope_around a) name result ss)
-
   pub routine_is : (modifiers : List Modifier) (r : DeclaredRoutine) → r.name ≡ name → r.access ≡ method_access modifiers → r.abstract_method ≡ is_abstract modifiers → r.outcome ≡ result_written (within a vs) result
       → r.parameters ≡ filter is_parameter vs → r ≡ routine_declared (scope_around a) name modifiers result ss
   routine_is modifiers r n c b o p =

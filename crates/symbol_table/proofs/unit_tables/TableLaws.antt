@@ -1,14 +1,11 @@
 -- What the tables of a unit say of it.
-use Rattle.std.proofs.Common.{◌≡◌, ℕ, List, [], ◌∷◌, ◌++◌, refl, sym, ap, ◌∙◌, subst}
+use Rattle.std.proofs.Common.{◌≡◌, ℕ, List, [], ◌∷◌, ◌++◌, refl, sym, ap, ◌∙◌}
 use Rattle.st_tree.specs.declared.unit.Decl.{Decl}
 use Rattle.st_tree.specs.declared.unit.Decl.TheVariants as declaration
 use Rattle.st_tree.specs.declared.unit.Unit.{Unit}
 use Rattle.st_rules.specs.Classes.{classes_in}
 use Rattle.st_rules.specs.Scope.{Scope}
 use Rattle.st_unit_rules.specs.declared_names.UnitNames.{unit_names}
-use Rattle.resolution_order.specs.told_laws.ToldLaws.{TellsKinds}
-use Rattle.resolution_order.proofs.told_laws.Settled.{settled}
-use Rattle.resolution_order.proofs.told_laws.Telling.{told_laws}
 use Rattle.check_limits.specs.declared.type_sizes.sizes.TypeSizes.{TypeSizes}
 use Rattle.check_limits.specs.type_sizes.Sizes.{Measures}
 
@@ -20,10 +17,6 @@ classes_split (declaration.Class c) ds = refl
 classes_split (declaration.Function f) ds = refl
 classes_split (declaration.Program p) ds = refl
 classes_split (declaration.Configuration c) ds = refl
-
--- the value of a constant is told with its type
-pub names_tell : (decls : List (Decl ℕ)) → TellsKinds (unit_names decls)
-names_tell decls = subst TellsKinds (settled decls) (told_laws.kinds decls (unit_names decls))
 
 pub seen_sizes : (sizes : TypeSizes) (u v : Unit) → u ≡ v → ((s : Scope) → s.classes ≡ classes_in u.decls → s.names ≡ unit_names u.decls → Measures sizes s)
     → (s : Scope) → s.classes ≡ classes_in v.decls → s.names ≡ unit_names v.decls → Measures sizes s

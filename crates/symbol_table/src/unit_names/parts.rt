@@ -1,7 +1,6 @@
 //! What entries of TYPE have, with the types of fields.
 
 ghost use Rattle.std.specs.Prelude.{◌≡◌, [], ◌∷◌, ◌++◌, map, flat_map, IfOk, OnOk};
-ghost use Rattle.constant_folding.specs.constant_values.ValueLaws.{ValuesHaveTypes};
 ghost use Rattle.st_unit_rules.specs.declared_names.Declarations.{entries_in};
 ghost use Rattle.st_unit_rules.specs.declared_names.UnitNames as unit_names;
 ghost use Rattle.symbol_table.specs.unit_names.Private.Known.{IsKnown, decls_of, field_of, group_in, names_of};
@@ -45,7 +44,6 @@ fn add_group(
     list: &mut Items<DeclaredField>,
     group: &FieldGroup<u32>,
 ) -> Result<(), NoMemory>
-    requires { ValuesHaveTypes s.now }
     ensures { OnOk result (list.new ≡ list.old ++ group_in s.now group.now) }
 {
     let kind = type_written(alloc, s, &group.kind)?;
@@ -58,7 +56,6 @@ fn fields(
     s: &Scope<'_>,
     groups: &[FieldGroup<u32>],
 ) -> Result<Items<DeclaredField>, NoMemory>
-    requires { ValuesHaveTypes s.now }
     ensures { IfOk result (λ list. list ≡ flat_map (group_in s.now) groups.now) }
 {
     let mut list = Items::new(alloc);

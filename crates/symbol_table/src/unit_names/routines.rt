@@ -5,7 +5,6 @@ ghost use Rattle.st_rules.specs.Calls as calls;
 ghost use Rattle.st_rules.specs.Classes.{methods_in};
 ghost use Rattle.st_rules.specs.Interfaces.{interfaces_in};
 ghost use Rattle.st_unit_rules.specs.declared_names.UnitNames as unit_names;
-ghost use Rattle.resolution_order.specs.told_laws.ToldLaws.{Every, TellsKind};
 ghost use Rattle.type_resolution.specs.told_locals.Around.{IsAround, scope_around};
 ghost use Rattle.symbol_table.specs.unit_names.Private.Known.{IsKnown, decls_of, names_of, within};
 
@@ -77,8 +76,7 @@ fn outcome(
     locals: &[DeclaredVariable],
     of: &Option<TypeSpec<u32>>,
 ) -> Result<ResultType, NoMemory>
-    requires around { IsAround around.now }
-    requires kinds { Every TellsKind locals.now }
+    requires { IsAround around.now }
     ensures { IfOk result (λ r. r ≡ unit_names.result_written (within around.now locals.now) of.now) }
 {
     match of {

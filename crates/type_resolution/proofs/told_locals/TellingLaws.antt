@@ -24,13 +24,11 @@ use Rattle.st_unit_rules.specs.declared_names.WrittenTypes.{type_written}
 use Rattle.st_unit_rules.specs.declared.declaration_list.written.WrittenName.{WrittenName}
 use Rattle.st_unit_rules.specs.declaration_list.Written.{written_of, global_of, names_in_sections}
 use Rattle.st_unit_rules.proofs.declaration_list.GlobalLaws.{written_by_names}
-use Rattle.constant_folding.specs.constant_values.ValueLaws.{ValuesHaveTypes}
-use Rattle.resolution_order.specs.told_laws.ToldLaws.{Each, Every, TellsKind}
+use Rattle.resolution_order.specs.told_laws.ToldLaws.{Each}
 use Rattle.resolution_order.specs.told_laws.TellingLaws.{NoValueLeft}
 use Rattle.resolution_order.specs.told_laws.LocalLaws.{with_local, SoundLocals}
 use Rattle.resolution_order.proofs.told_laws.LocalTelling.{local_laws, again}
 use Rattle.resolution_order.proofs.told_places.PlaceLaws.{local_place_laws}
-use Rattle.type_resolution.proofs.told_scopes.ScopeLaws.{scope-laws}
 use Rattle.type_resolution.specs.written_types.Types.{TellsConstant}
 use Rattle.type_resolution.specs.declared.told_locals.around.Around.{Around}
 use Rattle.type_resolution.specs.declared.told_locals.around.Declaring.{Declaring}
@@ -39,15 +37,6 @@ use Rattle.type_resolution.specs.declared.told_locals.telling.Told.{Told}
 use Rattle.type_resolution.specs.told_locals.Around.{scope_around, IsAround, declared_in, sections_of, all_told}
 use Rattle.type_resolution.specs.told_locals.Private.Telling.{scope_with, one_where, first_of, IsTold, told_behind}
 use Rattle.type_resolution.proofs.told_locals.ItemLaws.{OfItem, Behind, Follow, follow-sections, follow-drop}
-
--- ---- scopes
-
-pub around-values : (a : Around) (vs : List DeclaredVariable) (s : Scope) → IsAround a → Every TellsKind vs → s ≡ scope_with a vs → ValuesHaveTypes s
-around-values a vs s h k e = subst ValuesHaveTypes (sym e) (scope-laws.values (scope_with a vs) h.kinds k)
-
--- what is found in a scope is found with these locals
-pub found-around : (a : Around) (vs : List DeclaredVariable) (s : Scope) (w : Written) (o : Option (StType × ℤ)) → IsAround a → Every TellsKind vs → s ≡ scope_with a vs → (ValuesHaveTypes s → TellsConstant o s w) → TellsConstant o (scope_with a vs) w
-found-around a vs s w o h k e f = subst (λ t. TellsConstant o t w) e (f (around-values a vs s h k e))
 
 -- ---- the laws, of a routine or of a program
 

@@ -1,5 +1,5 @@
 -- What is found of one name of a group is so of all of them.
-use Rattle.std.proofs.Common.{◌≡◌, ℕ, zero, suc, ℤ, Bool, true, false, List, [], ◌∷◌, Option, Some, None, map, refl, sym, ap, ◌∙◌, subst}
+use Rattle.std.proofs.Common.{◌≡◌, ℕ, zero, suc, ℤ, false, List, [], ◌∷◌, Option, Some, None, map, refl, sym, ap, ◌∙◌, subst}
 use Rattle.std.specs.Prelude.{slice_get}
 use Rattle.std.specs.Option.{is_some}
 use Rattle.st_types.specs.declared.st_type.StType.{StType}
@@ -13,16 +13,12 @@ use Rattle.st_tree.specs.declared.name.Name.{Name}
 use Rattle.st_tree.specs.declared.unit.Decl.{Decl}
 use Rattle.st_rules.specs.declared.names.DeclaredNames.{DeclaredNames}
 use Rattle.st_rules.specs.Scope.{Scope}
-use Rattle.st_unit_rules.specs.declared_names.Variables.{Written, constant_of}
-use Rattle.st_unit_rules.specs.declared_names.UnitNames.{unit_scope, entry_kind}
+use Rattle.st_unit_rules.specs.declared_names.Variables.{Written}
+use Rattle.st_unit_rules.specs.declared_names.UnitNames.{entry_kind}
 use Rattle.st_unit_rules.specs.declaration_list.Written.{written_in}
-use Rattle.constant_folding.specs.constant_values.ValueLaws.{ValuesHaveTypes}
-use Rattle.resolution_order.specs.told_laws.TellingLaws.{Sound}
-use Rattle.type_resolution.proofs.told_scopes.ScopeLaws.{scope-laws}
 use Rattle.resolution_order.specs.telling_groups.PlaceLaws.{entry_can_be_told}
 use Rattle.resolution_order.specs.telling_groups.Jobs.{Job, of_entry, of_interface, of_class, of_global, of_member, can_be_told, Tells}
 use Rattle.resolution_order.specs.telling_groups.Groups.{Group, one_entry, one_interface, one_class, globals_of, members_of, each_name, jobs_of_group}
-use Rattle.resolution_order.specs.telling_groups.Arranged.{Among}
 use Rattle.type_resolution.specs.written_types.Types.{TellsConstant}
 use Rattle.type_resolution.specs.told_names.Private.State.{scope_in, entry_in, FindsEntry, Untellable, Tellable, Finds}
 
@@ -31,10 +27,6 @@ some-same h = cc
 
 pub none-some : {X : Type 0} {x : X} → None ≡ Some x → ⊥
 none-some h = cc
-
--- in the scopes of a unit the values of constants have types
-pub scope-values : (decls : List (Decl ℕ)) (a : DeclaredNames) (c : Option ℕ) → Sound decls a → ValuesHaveTypes (scope_in decls a c)
-scope-values decls a c s = scope-laws.values (scope_in decls a c) s.kinds tt
 
 -- ---- each name of an item
 
@@ -93,10 +85,8 @@ module _ (decls : List (Decl ℕ)) (a : DeclaredNames) where
 
 -- ---- as the code finds it
 
-pub constant-found : (decls : List (Decl ℕ)) (a : DeclaredNames) (c : Option ℕ) (x : Option (StType × ℤ)) (s : Scope) (w : Written) → Sound decls a → s ≡ scope_in decls a c → (ValuesHaveTypes s → TellsConstant x s w)
-    → TellsConstant x (scope_in decls a c) w
-constant-found decls a c x s w h e f = subst (λ t. TellsConstant x t w) e (f (subst ValuesHaveTypes (sym e) (scope-values decls a c h)))
+pub constant-found : (decls : List (Decl ℕ)) (a : DeclaredNames) (c : Option ℕ) (x : Option (StType × ℤ)) (s : Scope) (w : Written) → s ≡ scope_in decls a c → TellsConstant x s w → TellsConstant x (scope_in decls a c) w
+constant-found decls a c x s w e f = subst (λ t. TellsConstant x t w) e f
 
-pub entry-found : (decls : List (Decl ℕ)) (a : DeclaredNames) (k : Option StType) (s : Scope) (n : ℕ) (b : TypeBody ℕ) → Sound decls a → s ≡ scope_in decls a None → (ValuesHaveTypes s → k ≡ entry_in s n b)
-    → entry_kind decls a n b ≡ k
-entry-found decls a k s n b h e f = sym (f (subst ValuesHaveTypes (sym e) (scope-values decls a None h)) ∙ ap (λ t. entry_in t n b) e ∙ entry-is decls a n b)
+pub entry-found : (decls : List (Decl ℕ)) (a : DeclaredNames) (k : Option StType) (s : Scope) (n : ℕ) (b : TypeBody ℕ) → s ≡ scope_in decls a None → k ≡ entry_in s n b → entry_kind decls a n b ≡ k
+entry-found decls a k s n b e f = sym (f ∙ ap (λ t. entry_in t n b) e ∙ entry-is decls a n b)

@@ -6,7 +6,6 @@ use Rattle.st_tree.specs.declared.type_spec.Bounds.{Bounds}
 use Rattle.st_tree.specs.Expression.{expression_of}
 use Rattle.st_rules.specs.Scope.{Scope}
 use Rattle.st_unit_rules.specs.declared_names.WrittenTypes.{array_of, arrays_of, bound_value}
-use Rattle.constant_folding.specs.constant_values.ValueLaws.{ValuesHaveTypes}
 use Rattle.type_resolution.specs.written_types.Private.Values.{bounds_of}
 
 -- ---- one dimension
@@ -24,19 +23,19 @@ module _ (s : Scope) where
   arrays-append (x ∷ xs) ys t = ap (λ o. array_of (bound_value s (expression_of x.low)) (bound_value s (expression_of x.high)) o) (arrays-append xs ys t)
 
   pub record DimensionsTo (all : List (Bounds ℕ)) (of : Option StType) (left : List (Bounds ℕ)) (kind : Option StType) : Type 0 where
-    pub rest : ValuesHaveTypes s → arrays_of s left kind ≡ arrays_of s all of
+    pub rest : arrays_of s left kind ≡ arrays_of s all of
 
   pub dimensions_begun : (all left : List (Bounds ℕ)) (of : Option StType) → left ≡ all → DimensionsTo all of left of
-  dimensions_begun all left of e = record { rest = λ w. ap (λ xs. arrays_of s xs of) e }
+  dimensions_begun all left of e = record { rest = ap (λ xs. arrays_of s xs of) e }
 
   pub dimensions_next : (all : List (Bounds ℕ)) (of kind more : Option StType) (left before : List (Bounds ℕ)) (b : Bounds ℕ) → left ≡ before ++ b ∷ []
-      → (ValuesHaveTypes s → more ≡ array_of (bound_value s (expression_of b.low)) (bound_value s (expression_of b.high)) kind) → DimensionsTo all of left kind → DimensionsTo all of before more
+      → more ≡ array_of (bound_value s (expression_of b.low)) (bound_value s (expression_of b.high)) kind → DimensionsTo all of left kind → DimensionsTo all of before more
   dimensions_next all of kind more left before b e f d = record {
-    rest = λ w. ap (arrays_of s before) (f w) ∙ sym (arrays-append before (b ∷ []) kind) ∙ ap (λ xs. arrays_of s xs kind) (sym e) ∙ d.rest w;
+    rest = ap (arrays_of s before) f ∙ sym (arrays-append before (b ∷ []) kind) ∙ ap (λ xs. arrays_of s xs kind) (sym e) ∙ d.rest;
   }
 
-  pub dimensions_ended : (all : List (Bounds ℕ)) (of kind : Option StType) (left : List (Bounds ℕ)) → left ≡ [] → DimensionsTo all of left kind → ValuesHaveTypes s → kind ≡ arrays_of s all of
-  dimensions_ended all of kind left e d w = ap (λ xs. arrays_of s xs kind) (sym e) ∙ d.rest w
+  pub dimensions_ended : (all : List (Bounds ℕ)) (of kind : Option StType) (left : List (Bounds ℕ)) → left ≡ [] → DimensionsTo all of left kind → kind ≡ arrays_of s all of
+  dimensions_ended all of kind left e d = ap (λ xs. arrays_of s xs kind) (sym e) ∙ d.rest
 
   bounds-append : (xs ys : List (ArraySpec ℕ)) → bounds_of (xs ++ ys) ≡ bounds_of xs ++ bounds_of ys
   bounds-append [] ys = refl
@@ -54,20 +53,20 @@ module _ (s : Scope) where
       empty (x ∷ xs) = ap (λ zs. x ∷ zs) (empty xs)
 
   pub record ArraysTo (all : List (ArraySpec ℕ)) (of : Option StType) (left : List (ArraySpec ℕ)) (kind : Option StType) : Type 0 where
-    pub rest : ValuesHaveTypes s → arrays_of s (bounds_of left) kind ≡ arrays_of s (bounds_of all) of
+    pub rest : arrays_of s (bounds_of left) kind ≡ arrays_of s (bounds_of all) of
 
   pub arrays_begun : (all left : List (ArraySpec ℕ)) (of : Option StType) → left ≡ all → ArraysTo all of left of
-  arrays_begun all left of e = record { rest = λ w. ap (λ xs. arrays_of s (bounds_of xs) of) e }
+  arrays_begun all left of e = record { rest = ap (λ xs. arrays_of s (bounds_of xs) of) e }
 
   pub arrays_next : (all : List (ArraySpec ℕ)) (of kind more : Option StType) (left before : List (ArraySpec ℕ)) (a : ArraySpec ℕ) (bs : List (Bounds ℕ)) → left ≡ before ++ a ∷ [] → bs ≡ a.bounds
-      → (ValuesHaveTypes s → more ≡ arrays_of s bs kind) → ArraysTo all of left kind → ArraysTo all of before more
+      → more ≡ arrays_of s bs kind → ArraysTo all of left kind → ArraysTo all of before more
   arrays_next all of kind more left before a bs e g f d = record {
-    rest = λ w.
-        ap (arrays_of s (bounds_of before)) (f w ∙ ap (λ xs. arrays_of s xs kind) (g ∙ sym (bounds-one a)))
+    rest =
+        ap (arrays_of s (bounds_of before)) (f ∙ ap (λ xs. arrays_of s xs kind) (g ∙ sym (bounds-one a)))
         ∙ sym (arrays-append (bounds_of before) (bounds_of (a ∷ [])) kind)
         ∙ ap (λ xs. arrays_of s xs kind) (sym (bounds-append before (a ∷ [])) ∙ ap bounds_of (sym e))
-        ∙ d.rest w;
+        ∙ d.rest;
   }
 
-  pub arrays_ended : (all : List (ArraySpec ℕ)) (of kind : Option StType) (left : List (ArraySpec ℕ)) → left ≡ [] → ArraysTo all of left kind → ValuesHaveTypes s → kind ≡ arrays_of s (bounds_of all) of
-  arrays_ended all of kind left e d w = ap (λ xs. arrays_of s (bounds_of xs) kind) (sym e) ∙ d.rest w
+  pub arrays_ended : (all : List (ArraySpec ℕ)) (of kind : Option StType) (left : List (ArraySpec ℕ)) → left ≡ [] → ArraysTo all of left kind → kind ≡ arrays_of s (bounds_of all) of
+  arrays_ended all of kind left e d = ap (λ xs. arrays_of s (bounds_of xs) kind) (sym e) ∙ d.rest

@@ -1,79 +1,29 @@
--- The value of a constant expression from its typed tree and the rules that it breaks.
-use Rattle.std.proofs.Common.{◌≡◌, ℕ, ℤ, Bool, true, false, [], ◌∷◌, ◌++◌, Option, Some, None, refl, sym, ap, ◌∙◌}
+-- Values of constant expressions, where their names are told, and of bounds and constants.
+use Rattle.std.proofs.Common.{◌≡◌, ℕ, ℤ, Bool, true, false, Option, Some, None, refl, sym, ap, ◌∙◌}
 use Rattle.std.specs.Prelude.{if◌then◌else◌, option_map, option_and_then}
-use Rattle.plc_text.specs.declared.code.Code.{Code}
 use Rattle.st_types.specs.declared.st_type.StType.{StType}
-use Rattle.st_tree.specs.declared.program.Note.{Note}
 use Rattle.st_tree.specs.Expression.{Expression}
 use Rattle.st_tree.specs.Initial.{Initial, Value}
 use Rattle.st_tree.specs.Initial as initial
 use Rattle.st_rules.specs.declared.asked.Asked.{Asked}
 use Rattle.st_rules.specs.declared.asked.Asked.TheVariants.{Anything, Wanted}
-use Rattle.st_rules.specs.Faults.{Faults, earlier, least}
-use Rattle.st_rules.specs.Expressions.{line_of, type_of, faults, typed}
-use Rattle.st_rules.specs.Calls.{value_unsuited}
+use Rattle.st_rules.specs.Expressions.{type_of}
 use Rattle.st_rules.specs.Scope.{Scope}
-use Rattle.st_rules.proofs.FaultLaws.{least-append}
-use Rattle.st_unit_rules.specs.declared_names.Constants.{Outcome, comes_to, divides_by_zero, cannot_be_told, if_none, constant_value, value_faults, told_value, names_are_told, no_constant_part, zero_divisor}
+use Rattle.st_unit_rules.specs.declared_names.Constants.{if_none, constant_value, value_faults, told_value, names_are_told}
 use Rattle.st_unit_rules.specs.declared_names.WrittenTypes.{is_number_type, bound_value, type_written}
 use Rattle.st_unit_rules.specs.declared_names.Variables.{Written, may_be_constant, value_given, constant_of}
-use Rattle.constant_folding.specs.constant_values.Noted.{noted_value}
-use Rattle.constant_folding.specs.constant_values.ValueLaws.{ValuesHaveTypes, AsksForTold}
-use Rattle.constant_folding.proofs.constant_values.ValueLaws.{value-laws}
-use Rattle.type_resolution.specs.written_types.Private.Values.{found_value, expression_given}
-
-none-of : (fs gs : Faults) → fs ++ gs ≡ [] → (fs ≡ []) × (gs ≡ [])
-none-of [] gs h = (refl, h)
-none-of (f ∷ fs) gs h = absurd (cc)
-
--- ---- a rule is broken or none
+use Rattle.type_resolution.specs.written_types.Private.Values.{expression_given}
 
 module _ (s : Scope) where
-  ended : (v : Outcome) → found_value None None v ≡ if_none (zero_divisor s v) v
-  ended (comes_to z) = refl
-  ended (divides_by_zero l) = refl
-  ended cannot_be_told = refl
-
-  first-broken : (f : Code × ℕ) (o x : Option (Code × ℕ)) (w : Outcome) → found_value (earlier (Some f) o) x w ≡ None
-  first-broken f None x w = refl
-  first-broken f (Some g) x w = refl
-
-  second-broken : (f : Code × ℕ) (o : Option (Code × ℕ)) (w : Outcome) → found_value None (earlier (Some f) o) w ≡ None
-  second-broken f None w = refl
-  second-broken f (Some g) w = refl
-
-  found-is : (fs gs : Faults) (v w : Outcome) → (fs ≡ [] → gs ≡ [] → w ≡ v) → found_value (least fs) (least gs) w ≡ if_none (fs ++ gs ++ zero_divisor s v) v
-  found-is [] [] v w h = ap (found_value None None) (h refl refl) ∙ ended v
-  found-is [] (g ∷ gs) v w h = second-broken g (least gs) w
-  found-is (f ∷ fs) gs v w h = first-broken f (least fs) (least gs) w
-
   -- ---- values
 
   pub value-untold : (asked : Asked) (e : Expression ℕ) (b : Bool) → b ≡ names_are_told s e → b ≡ false → None ≡ told_value s asked e
   unfolding told_value
   value-untold asked e b h f = sym (ap (λ b. if b then if_none (value_faults s asked e) (constant_value s asked e) else None) (sym h ∙ f))
 
-  abbrev early-faults : Asked → Expression ℕ → Faults
-  early-faults asked e = faults s asked e ++ value_unsuited s (line_of e) asked (type_of s asked e)
-
-  pub value-told : (asked : Asked) (e : Expression ℕ) (b : Bool) (r : Option ℤ) (x : Option (Code × ℕ)) (u : Option StType) (t : Expression Note) → b ≡ names_are_told s e → b ≡ true → u ≡ type_of s asked e → x ≡ least (faults s asked e) → t ≡ typed s asked e
-      → r ≡ found_value (earlier x (least (value_unsuited s (line_of e) asked u))) (least (no_constant_part s e)) (noted_value t) → ValuesHaveTypes s → AsksForTold asked → r ≡ told_value s asked e
+  pub value-told : (asked : Asked) (e : Expression ℕ) (b : Bool) (r : Option ℤ) → b ≡ names_are_told s e → b ≡ true → r ≡ if_none (value_faults s asked e) (constant_value s asked e) → r ≡ told_value s asked e
   unfolding told_value
-  value-told asked e b r x u t h q g f m k w a =
-      k
-      ∙ ap (λ y. found_value y (least (no_constant_part s e)) (noted_value t)) early
-      ∙ ap (λ y. found_value (least (early-faults asked e)) (least (no_constant_part s e)) (noted_value y)) m
-      ∙ found-is (early-faults asked e) (no_constant_part s e) (constant_value s asked e) (noted_value (typed s asked e)) same
-      ∙ sym (ap (λ b. if b then if_none (early-faults asked e ++ no_constant_part s e ++ zero_divisor s (constant_value s asked e)) (constant_value s asked e) else None) (sym h ∙ q))
-    where
-      early : earlier x (least (value_unsuited s (line_of e) asked u)) ≡ least (early-faults asked e)
-      early =
-          ap (λ y. earlier y (least (value_unsuited s (line_of e) asked u))) f
-          ∙ ap (λ y. earlier (least (faults s asked e)) (least (value_unsuited s (line_of e) asked y))) g
-          ∙ sym (least-append (faults s asked e) (value_unsuited s (line_of e) asked (type_of s asked e)))
-
-      same : early-faults asked e ≡ [] → no_constant_part s e ≡ [] → noted_value (typed s asked e) ≡ constant_value s asked e
-      same g p = value-laws.value s asked e w a (sym h ∙ q) p (none-of (faults s asked e) (value_unsuited s (line_of e) asked (type_of s asked e)) g).0
+  value-told asked e b r h q k = k ∙ sym (ap (λ b. if b then if_none (value_faults s asked e) (constant_value s asked e) else None) (sym h ∙ q))
 
   -- ---- bounds
 

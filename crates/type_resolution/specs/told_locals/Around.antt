@@ -6,7 +6,6 @@ use Rattle.st_rules.specs.Classes.{classes_in}
 use Rattle.st_rules.specs.Interfaces.{interfaces_in}
 use Rattle.st_rules.specs.Scope.{Scope}
 use Rattle.type_resolution.specs.declared_variables.Tables.{Knows}
-use Rattle.resolution_order.specs.told_laws.ToldLaws.{TellsKinds}
 use Rattle.st_unit_rules.specs.declared_names.Variables.{members_declared, routine_locals}
 use Rattle.st_unit_rules.specs.declared_names.UnitNames.{locals_of, program_locals}
 use Rattle.type_resolution.specs.declared.told_locals.around.Around.{Around}
@@ -24,11 +23,10 @@ scope_around a = record {
   locals = [];
 }
 
--- the tables know the unit, and tell the value of a constant only with its type
+-- the tables know the unit
 pub record IsAround (a : Around) : Type 0 where
   pub knows : Knows a.names.now (classes_in a.classes.now.decls)
   pub same : a.interfaces.now ≡ a.classes.now
-  pub kinds : TellsKinds a.names.now.names
 
 -- what is declared, in a scope in which locals are known
 abbrev pub declared_in : Declaring → Scope → List DeclaredVariable

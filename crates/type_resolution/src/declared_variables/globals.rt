@@ -2,7 +2,6 @@
 
 ghost use Rattle.std.specs.Prelude.{◌≡◌, ◌∷◌, ◌++◌, List, map, not, IfOk};
 ghost use Rattle.st_unit_rules.specs.declared_names.Variables.{section_written, sections_written};
-ghost use Rattle.constant_folding.specs.constant_values.ValueLaws.{ValuesHaveTypes};
 ghost use Rattle.type_resolution.specs.declared_variables.Globals.{AddsGlobals};
 ghost use Rattle.type_resolution.specs.declared_variables.Private.Told as own;
 ghost use Rattle.type_resolution.specs.declared_variables.Private.Told.{ToldName as AToldName};
@@ -55,7 +54,6 @@ pub fn add_section_globals(
     region: u32,
     section: &Section<u32>,
 ) -> Result<u32, NoMemory>
-    requires { ValuesHaveTypes s.now }
     ensures { IfOk result (λ after. AddsGlobals s.now list.old list.new region after (section_written section.now)) }
 {
     let names = told_section(alloc, s, section)?;
@@ -72,7 +70,6 @@ pub fn add_globals(
     region: u32,
     sections: &[Section<u32>],
 ) -> Result<u32, NoMemory>
-    requires { ValuesHaveTypes s.now }
     ensures { IfOk result (λ after. AddsGlobals s.now list.old list.new region after (sections_written sections.now)) }
 {
     let names = told_names(alloc, s, sections)?;

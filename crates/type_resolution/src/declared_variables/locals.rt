@@ -2,7 +2,6 @@
 
 ghost use Rattle.std.specs.Prelude.{◌≡◌, ◌∷◌, ◌++◌, ◌+◌, List, Some, map, filter, length, IfOk};
 ghost use Rattle.st_unit_rules.specs.declared_names.Variables as variables;
-ghost use Rattle.constant_folding.specs.constant_values.ValueLaws.{ValuesHaveTypes};
 ghost use Rattle.st_unit_rules.specs.declaration_list.Written.{written_of};
 ghost use Rattle.type_resolution.specs.declared_variables.Private.Told as own;
 ghost use Rattle.type_resolution.specs.declared_variables.Private.Told.{ToldName as AToldName};
@@ -99,7 +98,6 @@ fn add_result(
     name: &Text,
     kind: &TypeSpec<u32>,
 ) -> Result<(), NoMemory>
-    requires { ValuesHaveTypes s.now }
     ensures { IfOk result (λ u. list.new ≡ list.old ++ variables.result_declared s.now name.now (Some kind.now)) }
 {
     let text = Text::copy(alloc, name.as_str())?;
@@ -123,7 +121,6 @@ fn result_of(
     name: &Text,
     of: &Option<TypeSpec<u32>>,
 ) -> Result<Series<DeclaredVariable>, NoMemory>
-    requires { ValuesHaveTypes s.now }
     ensures { IfOk result (λ vs. vs ≡ variables.result_declared s.now name.now of.now) }
 {
     let mut list = Series::new(alloc);
@@ -152,7 +149,6 @@ pub fn declared_locals(
     of: &Option<TypeSpec<u32>>,
     sections: &[Section<u32>],
 ) -> Result<Series<DeclaredVariable>, NoMemory>
-    requires { ValuesHaveTypes s.now }
     ensures { IfOk result (λ vs. vs ≡ variables.routine_locals s.now name.now.text of.now sections.now) }
 {
     let mut list = result_of(alloc, s, &name.text, of)?;

@@ -3,7 +3,6 @@
 ghost use Rattle.std.specs.Prelude.{◌≡◌, ℕ, ◌∷◌, [], ◌++◌, map, IfOk, OnOk};
 ghost use Rattle.st_unit_rules.specs.declared_names.Variables as variables;
 ghost use Rattle.st_unit_rules.specs.declared_names.Variables.{sections_written};
-ghost use Rattle.constant_folding.specs.constant_values.ValueLaws.{ValuesHaveTypes};
 ghost use Rattle.declared_symbols.specs.untold_names.Untold.{number_behind as behind, untold_members};
 ghost use Rattle.type_resolution.specs.declared_variables.Private.Told as own;
 
@@ -101,7 +100,6 @@ pub fn declared_members(
     untold: &[DeclaredVariable],
     members: &[Member<u32>],
 ) -> Result<Series<DeclaredVariable>, NoMemory>
-    requires { ValuesHaveTypes s.now }
     ensures { IfOk result (λ vs. (k l : ℕ) → untold.now ≡ untold_members k l (sections_written (variables.sections_in members.now)) → vs ≡ variables.members_declared s.now k l (variables.sections_in members.now)) }
 {
     let names = told_members(alloc, s, members)?;
@@ -115,7 +113,6 @@ pub fn declared_program(
     s: &Scope<'_>,
     sections: &[Section<u32>],
 ) -> Result<Series<DeclaredVariable>, NoMemory>
-    requires { ValuesHaveTypes s.now }
     ensures { IfOk result (λ vs. vs ≡ variables.members_declared s.now 0 0 sections.now) }
 {
     let written = written_names(alloc, sections)?;

@@ -3,7 +3,6 @@
 ghost use Rattle.std.specs.Prelude.{◌≡◌, ◌∷◌, [], ◌++◌, map, flat_map, IfOk, OnOk};
 ghost use Rattle.st_unit_rules.specs.declared_names.Variables.{section_written, sections_in, sections_written};
 ghost use Rattle.st_unit_rules.specs.declared_names.WrittenTypes.{type_written};
-ghost use Rattle.constant_folding.specs.constant_values.ValueLaws.{ValuesHaveTypes};
 ghost use Rattle.st_unit_rules.specs.declaration_list.Written.{written_in, written_of};
 ghost use Rattle.type_resolution.specs.declared_variables.Private.Told as own;
 
@@ -33,7 +32,6 @@ struct ToldItem {
 
 /// What is told of an item, by one of its names.
 fn told_item(alloc: Global, s: &Scope<'_>, name: &WrittenName<'_>) -> Result<ToldItem, NoMemory>
-    requires { ValuesHaveTypes s.now }
     ensures kind { IfOk result (λ t. t.kind ≡ type_written s.now (written_of name.now).item.kind) }
     ensures value { IfOk result (λ t. t.value ≡ own.value_in s.now (written_of name.now)) }
 {
@@ -109,7 +107,6 @@ fn add_item<'a>(
     section: &'a Section<u32>,
     item: &'a Item<u32>,
 ) -> Result<(), NoMemory>
-    requires { ValuesHaveTypes s.now }
     ensures { OnOk result (map own.told_as list.new.items ≡ map own.told_as list.old.items ++ own.names_of_item s.now section.now item.now) }
 {
     let Some(first) = item.names.as_slice().first() else {
@@ -126,7 +123,6 @@ fn add_section<'a>(
     list: &mut Vec<ToldName<'a>>,
     section: &'a Section<u32>,
 ) -> Result<(), NoMemory>
-    requires { ValuesHaveTypes s.now }
     ensures { OnOk result (map own.told_as list.new.items ≡ map own.told_as list.old.items ++ own.names_of_section s.now section.now) }
 {
     let items = section.items.as_slice();
@@ -142,7 +138,6 @@ fn add_sections<'a>(
     list: &mut Vec<ToldName<'a>>,
     sections: &'a [Section<u32>],
 ) -> Result<(), NoMemory>
-    requires { ValuesHaveTypes s.now }
     ensures { OnOk result (map own.told_as list.new.items ≡ map own.told_as list.old.items ++ flat_map (own.names_of_section s.now) sections.now) }
 {
     for section in sections {
@@ -158,7 +153,6 @@ pub fn told_names<'a>(
     s: &Scope<'_>,
     sections: &'a [Section<u32>],
 ) -> Result<Vec<ToldName<'a>>, NoMemory>
-    requires { ValuesHaveTypes s.now }
     ensures { IfOk result (λ list. map own.told_as list.items ≡ map (own.told_of s.now) (sections_written sections.now)) }
 {
     let mut list = Vec::new(alloc);
@@ -173,7 +167,6 @@ pub fn told_section<'a>(
     s: &Scope<'_>,
     section: &'a Section<u32>,
 ) -> Result<Vec<ToldName<'a>>, NoMemory>
-    requires { ValuesHaveTypes s.now }
     ensures { IfOk result (λ list. map own.told_as list.items ≡ map (own.told_of s.now) (section_written section.now)) }
 {
     let mut list = Vec::new(alloc);
@@ -187,7 +180,6 @@ fn add_member<'a>(
     list: &mut Vec<ToldName<'a>>,
     member: &'a Member<u32>,
 ) -> Result<(), NoMemory>
-    requires { ValuesHaveTypes s.now }
     ensures { OnOk result (map own.told_as list.new.items ≡ map own.told_as list.old.items ++ flat_map (own.names_of_section s.now) (sections_in (member.now ∷ []))) }
 {
     match member {
@@ -203,7 +195,6 @@ fn add_members<'a>(
     list: &mut Vec<ToldName<'a>>,
     members: &'a [Member<u32>],
 ) -> Result<(), NoMemory>
-    requires { ValuesHaveTypes s.now }
     ensures { OnOk result (map own.told_as list.new.items ≡ map own.told_as list.old.items ++ flat_map (own.names_of_section s.now) (sections_in members.now)) }
 {
     for member in members {
@@ -219,7 +210,6 @@ pub fn told_members<'a>(
     s: &Scope<'_>,
     members: &'a [Member<u32>],
 ) -> Result<Vec<ToldName<'a>>, NoMemory>
-    requires { ValuesHaveTypes s.now }
     ensures { IfOk result (λ list. map own.told_as list.items ≡ map (own.told_of s.now) (sections_written (sections_in members.now))) }
 {
     let mut list = Vec::new(alloc);

@@ -2,8 +2,6 @@
 
 ghost use Rattle.std.specs.Prelude.{◌≡◌, IfOk};
 ghost use Rattle.st_unit_rules.specs.declaration_list.Written.{written_of};
-ghost use Rattle.resolution_order.specs.told_laws.ToldLaws.{Every, TellsKind};
-ghost use Rattle.constant_folding.specs.constant_values.ValueLaws.{ValuesHaveTypes};
 ghost use Rattle.type_resolution.specs.told_locals.Around.{IsAround, declared_in};
 ghost use Rattle.name_resolution.specs.Locals.{ArePlaces};
 ghost use Rattle.type_resolution.specs.written_types.Types.{TellsConstant};
@@ -44,7 +42,6 @@ fn declared(
     s: &Scope<'_>,
     of: &Declaring<'_>,
 ) -> Result<Series<DeclaredVariable>, NoMemory>
-    requires { ValuesHaveTypes s.now }
     ensures { IfOk result (λ vs. vs ≡ declared_in of.now s.now) }
 {
     match of {
@@ -83,8 +80,7 @@ pub fn declared_with(
     of: &Declaring<'_>,
     known: &[DeclaredVariable],
 ) -> Result<Series<DeclaredVariable>, NoMemory>
-    requires around { IsAround around.now }
-    requires kinds { Every TellsKind known.now }
+    requires { IsAround around.now }
     ensures { IfOk result (λ vs. vs ≡ declared_in of.now (scope_with around.now known.now)) }
 {
     let places = local_places(alloc, known)?;
@@ -102,7 +98,6 @@ pub fn found_with(
     name: &WrittenName<'_>,
 ) -> Result<(Option<(StType, i128)>, Places), NoMemory>
     requires around { IsAround around.now }
-    requires kinds { Every TellsKind known.now }
     requires places { ArePlaces places known.now }
     ensures told { IfOk result (λ r. TellsConstant r.0 (scope_with around.now known.now) (written_of name.now)) }
     ensures places { IfOk result (λ r. ArePlaces r.1 known.now) }

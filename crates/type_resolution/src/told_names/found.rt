@@ -3,7 +3,6 @@
 ghost use Rattle.std.specs.Prelude.{◌≡◌, IfOk};
 ghost use Rattle.st_rules.specs.Classes.{classes_in};
 ghost use Rattle.name_resolution.specs.Tables.{Knows};
-ghost use Rattle.constant_folding.specs.constant_values.ValueLaws.{ValuesHaveTypes};
 ghost use Rattle.st_unit_rules.specs.declaration_list.Written.{written_of};
 ghost use Rattle.type_resolution.specs.written_types.Types.{TellsConstant};
 ghost use Rattle.resolution_order.specs.telling_groups.Groups.{group_of};
@@ -28,7 +27,7 @@ fn entry_kind(
     number: u32,
     body: &TypeBody<u32>,
 ) -> Result<Option<StType>, NoMemory>
-    ensures { IfOk result (λ k. ValuesHaveTypes s.now → k ≡ state.entry_in s.now number body.now) }
+    ensures { IfOk result (λ k. k ≡ state.entry_in s.now number body.now) }
 {
     match body {
         TypeBody::Alias(spec) => {

@@ -3,7 +3,6 @@
 ghost use Rattle.std.specs.Prelude.{◌≡◌, Some, IfOk};
 ghost use Rattle.st_tree.specs.Expression.{expression_of};
 ghost use Rattle.st_unit_rules.specs.declared_names.WrittenTypes as written;
-ghost use Rattle.constant_folding.specs.constant_values.ValueLaws.{ValuesHaveTypes};
 ghost use Rattle.type_resolution.specs.written_types.Private.Values as own;
 
 use crate::written_types::values::bound_value;
@@ -49,7 +48,7 @@ fn in_dimension(
     bounds: &Bounds<u32>,
     of: Option<StType>,
 ) -> Result<Option<StType>, NoMemory>
-    ensures { IfOk result (λ t. ValuesHaveTypes s.now → t ≡ written.array_of (written.bound_value s.now (expression_of bounds.now.low)) (written.bound_value s.now (expression_of bounds.now.high)) of) }
+    ensures { IfOk result (λ t. t ≡ written.array_of (written.bound_value s.now (expression_of bounds.now.low)) (written.bound_value s.now (expression_of bounds.now.high)) of) }
 {
     match of {
         None => Ok(None),
@@ -69,7 +68,7 @@ fn in_dimensions(
     bounds: &[Bounds<u32>],
     of: Option<StType>,
 ) -> Result<Option<StType>, NoMemory>
-    ensures { IfOk result (λ t. ValuesHaveTypes s.now → t ≡ written.arrays_of s.now bounds.now of) }
+    ensures { IfOk result (λ t. t ≡ written.arrays_of s.now bounds.now of) }
 {
     let mut kind = of;
     let mut left = bounds;
@@ -87,7 +86,7 @@ pub fn in_arrays(
     arrays: &[ArraySpec<u32>],
     of: Option<StType>,
 ) -> Result<Option<StType>, NoMemory>
-    ensures { IfOk result (λ t. ValuesHaveTypes s.now → t ≡ written.arrays_of s.now (own.bounds_of arrays.now) of) }
+    ensures { IfOk result (λ t. t ≡ written.arrays_of s.now (own.bounds_of arrays.now) of) }
 {
     let mut kind = of;
     let mut left = arrays;

@@ -6,7 +6,6 @@ ghost use Rattle.st_tree.specs.Initial.{initial_of};
 ghost use Rattle.st_rules.specs.Scope.{Scope as AScope};
 ghost use Rattle.st_unit_rules.specs.declared_names.Variables as variables;
 ghost use Rattle.st_unit_rules.specs.declaration_list.Written.{written_of};
-ghost use Rattle.constant_folding.specs.constant_values.ValueLaws.{ValuesHaveTypes};
 ghost use Rattle.type_resolution.specs.written_types.Types.{TellsConstant};
 ghost use Rattle.type_resolution.specs.written_types.Private.Values as own;
 
@@ -54,7 +53,7 @@ fn value_given(
     kind: &StType,
     initial: &Option<Init<u32>>,
 ) -> Result<Option<i128>, NoMemory>
-    ensures { IfOk result (λ v. ValuesHaveTypes s.now → v ≡ variables.value_given s.now kind.now (option_map initial_of initial.now)) }
+    ensures { IfOk result (λ v. v ≡ variables.value_given s.now kind.now (option_map initial_of initial.now)) }
 {
     if !may_be_constant(kind) {
         return Ok(None);
@@ -75,7 +74,7 @@ pub fn constant_of(
     s: &Scope<'_>,
     name: &WrittenName<'_>,
 ) -> Result<Option<(StType, i128)>, NoMemory>
-    ensures { IfOk result (λ c. ValuesHaveTypes s.now → TellsConstant c s.now (written_of name.now)) }
+    ensures { IfOk result (λ c. TellsConstant c s.now (written_of name.now)) }
 {
     let kind = type_written(alloc, s, &name.item.kind)?;
     let Some(kind) = kind else {

@@ -3,7 +3,6 @@
 ghost use Rattle.std.specs.Prelude.{◌≡◌, IfOk, option_and_then};
 ghost use Rattle.st_rules.specs.Expressions as expressions;
 ghost use Rattle.st_unit_rules.specs.declared_names.WrittenTypes as written;
-ghost use Rattle.constant_folding.specs.constant_values.ValueLaws.{ValuesHaveTypes};
 
 use crate::written_types::arrays::in_arrays;
 use constant_folding::name_resolution::Scope;
@@ -64,7 +63,7 @@ pub fn type_written(
     s: &Scope<'_>,
     spec: &TypeSpec<u32>,
 ) -> Result<Option<StType>, NoMemory>
-    ensures { IfOk result (λ t. ValuesHaveTypes s.now → t ≡ written.type_written s.now spec.now) }
+    ensures { IfOk result (λ t. t ≡ written.type_written s.now spec.now) }
 {
     let element = element_written(alloc, s, &spec.element)?;
     let kind = in_arrays(alloc, s, spec.arrays.as_slice(), element)?;

@@ -1,6 +1,6 @@
 use Rattle.std.proofs.Common.{◌≡◌, ◌<◌, ◌≤◌, ℕ, Bool, List, length, true, false, Some}
 use Rattle.std.specs.List.{slice_get}
-use Rattle.graph_cycles.specs.declared.graph.Edge.{Edge}
+use Rattle.graph_reach.specs.declared.threads.Edge.{Edge}
 use Rattle.graph_cycles.specs.Graph.{marked}
 use Rattle.graph_cycles.specs.Private.Ways.{mark_count, AllEnd, IsClosedBack}
 use Rattle.graph_cycles.proofs.behind.round.Given as goal

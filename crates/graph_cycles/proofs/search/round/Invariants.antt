@@ -1,6 +1,6 @@
 use Rattle.std.proofs.Common.{◌≡◌, ◌<◌, ◌≤◌, ℕ, length, true, false, Some}
 use Rattle.std.specs.List.{slice_get}
-use Rattle.graph_cycles.specs.declared.graph.Edge.{Edge}
+use Rattle.graph_reach.specs.declared.threads.Edge.{Edge}
 use Rattle.graph_cycles.specs.Private.Ways.{mark_count, Sound, IsClosedAt}
 use Rattle.graph_cycles.proofs.search.round.Given as goal
 

@@ -14,7 +14,6 @@ use Rattle.st_rules.specs.Classes.{classes_in}
 use Rattle.st_rules.specs.Numbered.{each_numbered}
 use Rattle.st_rules.specs.Scope.{Scope}
 use Rattle.type_resolution.specs.told_names.Tables.{Knows}
-use Rattle.resolution_order.specs.told_laws.ToldLaws.{TellsKinds}
 use Rattle.st_unit_rules.specs.declared_names.WrittenTypes.{type_written}
 use Rattle.st_unit_rules.specs.declared_names.UnitNames.{unit_scope, class_declared}
 use Rattle.type_resolution.specs.told_locals.Around.{scope_around}
@@ -35,11 +34,10 @@ scope_in k c m = record (unit_scope (decls_of k) (names_of k)) { class = c; in_m
 abbrev pub within : Around → List DeclaredVariable → Scope
 within a vs = record (scope_around a) { locals = vs }
 
--- the tables know the unit, and tell the value of a constant only with its type
+-- the tables know the unit
 pub record IsKnown (k : Known) : Type 0 where
   pub knows : Knows k.names.now (classes_in k.classes.now.decls)
   pub same : k.interfaces.now ≡ k.classes.now
-  pub kinds : TellsKinds k.names.now.names
 
 abbrev pub field_of : Option StType → Name → DeclaredField
 field_of kind n = record { name = n.text; kind = kind }

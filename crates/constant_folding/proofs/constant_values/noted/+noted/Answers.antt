@@ -14,7 +14,7 @@ pub noted_value-returns-in-Place : goal.noted_value-returns-in-Place
 noted_value-returns-in-Place t c = place_arm _ _ _ _ c.in-Place.is c.target_value.ensures
 
 pub noted_value-returns-in-Call : goal.noted_value-returns-in-Call
-noted_value-returns-in-Call t c = call_arm _ _ _ _ _ _ _ _ c.in-Call.is c.as_slice.ensures c.operand_value-operand.ensures c.kind_in.ensures c.converted.ensures
+noted_value-returns-in-Call t c = call_arm _ _ _ _ _ _ _ _ _ c.in-Call.is c.as_slice-selectors.ensures c.as_slice-arguments.ensures c.operand_value-operand.ensures c.conversion_at.ensures c.converted_by.ensures
 
 pub noted_value-returns-in-Enumerator : goal.noted_value-returns-in-Enumerator
 noted_value-returns-in-Enumerator t c = enumerator_arm _ _ _ _ _ _ c.in-Enumerator.is c.target_value-in-Enumerator.ensures
@@ -23,13 +23,13 @@ pub noted_value-returns-in-Paren : goal.noted_value-returns-in-Paren
 noted_value-returns-in-Paren t c = paren_arm _ _ _ _ _ c.in-Paren.is c.get.ensures c.noted_value.ensures
 
 pub noted_value-returns-in-Not : goal.noted_value-returns-in-Not
-noted_value-returns-in-Not t c = not_arm _ _ _ _ _ _ _ c.in-Not.is c.get-in-Not.ensures c.noted_value-operand.ensures c.kind_in-in-Not.ensures c.complemented.ensures
+noted_value-returns-in-Not t c = not_arm _ _ _ _ _ _ _ c.in-Not.is c.get-in-Not.ensures c.noted_value-operand.ensures c.kind_in.ensures c.complemented.ensures
 
 pub noted_value-returns-in-Negate : goal.noted_value-returns-in-Negate
 noted_value-returns-in-Negate t c = negate_arm _ _ _ _ _ c.in-Negate.is c.get-in-Negate.ensures c.negated_value.ensures
 
 pub noted_value-returns-in-Chain : goal.noted_value-returns-in-Chain
-noted_value-returns-in-Chain t c = chain_arm _ _ _ _ _ _ _ _ c.in-Chain.is c.get-in-Chain.ensures c.as_slice-in-Chain.ensures c.noted_value-front.ensures c.row_value.ensures
+noted_value-returns-in-Chain t c = chain_arm _ _ _ _ _ _ _ _ c.in-Chain.is c.get-in-Chain.ensures c.as_slice.ensures c.noted_value-front.ensures c.row_value.ensures
 
 pub row_value-loop-tail-init : goal.row_value-loop-tail-init
 row_value-loop-tail-init t c = row_begun _ _

@@ -1,11 +1,7 @@
-use Rattle.std.proofs.Common.{Some, false, ◌++◌, ◌∷◌, [], ap, ◌∙◌}
+use Rattle.std.proofs.Common.{◌++◌, ◌∷◌, [], ap, ◌∙◌}
 use Rattle.symbol_table.specs.unit_names.Private.Known.{decls_of, names_of}
-use Rattle.symbol_table.proofs.unit_names.KnownLaws.{known_values}
 use Rattle.symbol_table.proofs.unit_names.ClassLaws.{class_lent}
 use Rattle.symbol_table.proofs.unit_names.classes.add_class.Goals as goal
-
-pub declared_members-requires : goal.declared_members-requires
-declared_members-requires c = known_values c.args.known.now (Some c.args.number) false c.in_ok-s.s c.requires.known c.in_ok-s.ensures
 
 pub returns : goal.returns
 returns c =

@@ -1,9 +1,6 @@
 use Rattle.std.proofs.Common.{◌∙◌}
-use Rattle.symbol_table.proofs.unit_names.KnownLaws.{locals_tell, routine_is}
+use Rattle.symbol_table.proofs.unit_names.KnownLaws.{routine_is}
 use Rattle.symbol_table.proofs.unit_names.routines.declared_routine.Goals as goal
-
-pub outcome-requires-clause-kinds : goal.outcome-requires-clause-kinds
-outcome-requires-clause-kinds c = locals_tell c.args.around.now c.args.name.now.text c.args.of.now c.args.sections.now c.as_slice-locals.result.now (c.as_slice-locals.ensures ∙ c.in_ok-list.ensures)
 
 pub returns : goal.returns
 returns c =

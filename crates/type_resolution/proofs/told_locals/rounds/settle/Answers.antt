@@ -1,14 +1,11 @@
-use Rattle.std.proofs.Common.{List, sym, ap, subst, ◌∙◌}
+use Rattle.std.proofs.Common.{List, ap, subst, ◌∙◌}
 use Rattle.st_rules.specs.declared.names.DeclaredVariable.{DeclaredVariable}
-use Rattle.resolution_order.specs.told_laws.ToldLaws.{Each, Every, TellsKind}
+use Rattle.resolution_order.specs.told_laws.ToldLaws.{Each}
 use Rattle.resolution_order.specs.told_laws.TellingLaws.{NoValueLeft}
 use Rattle.type_resolution.specs.told_locals.Around.{declared_in}
 use Rattle.type_resolution.specs.told_locals.Private.Telling.{scope_with}
 use Rattle.type_resolution.proofs.told_locals.TellingLaws.{settle_next, settle_ended}
 use Rattle.type_resolution.proofs.told_locals.rounds.settle.Goals as goal
-
-pub declared_with-requires-clause-kinds : goal.declared_with-requires-clause-kinds
-declared_with-requires-clause-kinds c = subst (Every TellsKind) (sym c.as_slice.ensures) c.loop-round.invariant.kinds
 
 pub returns-then-nothing_left : goal.returns-then-nothing_left
 returns-then-nothing_left c =

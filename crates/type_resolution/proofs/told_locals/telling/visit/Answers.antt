@@ -2,13 +2,9 @@ use Rattle.std.proofs.Common.{refl, subst, sym, ◌∙◌}
 use Rattle.name_resolution.specs.Locals.{ArePlaces}
 use Rattle.type_resolution.specs.written_types.Types.{TellsConstant}
 use Rattle.st_unit_rules.specs.declaration_list.Written.{written_of}
-use Rattle.resolution_order.specs.told_laws.ToldLaws.{Every, TellsKind}
 use Rattle.type_resolution.specs.told_locals.Private.Telling.{scope_with}
 use Rattle.type_resolution.proofs.told_locals.TellingLaws.{told_same, told_next}
 use Rattle.type_resolution.proofs.told_locals.telling.visit.Goals as goal
-
-pub found_with-requires-clause-kinds : goal.found_with-requires-clause-kinds
-found_with-requires-clause-kinds c = subst (Every TellsKind) (sym c.as_slice.ensures) c.requires.told.sound.kinds
 
 pub found_with-requires-clause-places : goal.found_with-requires-clause-places
 found_with-requires-clause-places c = subst (ArePlaces c.args.told.places) (sym c.as_slice.ensures) c.requires.told.places

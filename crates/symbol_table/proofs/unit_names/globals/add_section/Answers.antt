@@ -1,6 +1,0 @@
-use Rattle.std.proofs.Common.{None, false}
-use Rattle.symbol_table.proofs.unit_names.KnownLaws.{known_values}
-use Rattle.symbol_table.proofs.unit_names.globals.add_section.Goals as goal
-
-pub add_section_globals-requires : goal.add_section_globals-requires
-add_section_globals-requires c = known_values c.args.known.now None false c.in_ok-s.s c.requires c.in_ok-s.ensures

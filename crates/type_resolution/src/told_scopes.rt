@@ -1,5 +1,0 @@
-//! Why the values of constants have types in all scopes of a unit.
-
-mod scopes;
-
-pub use scopes::scope_laws;
