@@ -75,6 +75,5 @@ pub fn check(alloc: Global, unit: &Unit) -> Result<Program, Denied>
         },
         heights: &heights,
     };
-    let program = check_by(alloc, &side, decls)?;
-    Ok(program)
+    check_by(alloc, &side, decls)
 }

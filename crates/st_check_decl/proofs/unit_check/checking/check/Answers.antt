@@ -1,5 +1,4 @@
 use Rattle.std.proofs.Common.{sym, ◌∙◌}
-use Rattle.std.proofs.lemmas.Result.{err_from_is_err_and}
 use Rattle.st_check_decl.proofs.unit_check.SideLaws.{good_of, refused_of, serves}
 use Rattle.st_check_decl.proofs.unit_check.checking.check.Goals as goal
 
@@ -9,8 +8,8 @@ check_by-requires-clause-side c = serves _ c.args.unit.now _ c.in_ok-tables.ensu
 pub check_by-requires-clause-unit : goal.check_by-requires-clause-unit
 check_by-requires-clause-unit c = c.as_slice-decls.ensures ∙ (λ i. (sym c.in_ok-tables.ensures i).decls)
 
-pub returns-in_err-program-clause-err : goal.returns-in_err-program-clause-err
-returns-in_err-program-clause-err c = let p = err_from_is_err_and c.from_residual-in_err-program.result c.from_residual-in_err-program.ensures.1 in rw (p.1, p.2) (refused_of _ c.args.unit.now c.as_slice-decls.ensures _ c.in_err-program.ensures.err)
-
 pub returns-clause-ok : goal.returns-clause-ok
-returns-clause-ok c = good_of _ c.args.unit.now c.as_slice-decls.ensures _ c.in_ok-program.ensures.ok
+returns-clause-ok c = good_of _ c.args.unit.now c.as_slice-decls.ensures _ c.check_by.ensures.ok
+
+pub returns-clause-err : goal.returns-clause-err
+returns-clause-err c = refused_of _ c.args.unit.now c.as_slice-decls.ensures _ c.check_by.ensures.err
