@@ -91,6 +91,5 @@ pub fn check_function(
     let locals = list.as_slice();
     let s = tables.scope(alloc, None, false, locals)?;
     let parts = parts_of(tables);
-    let c = check_in(alloc, &s, &parts, locals, function)?;
-    Ok(c)
+    check_in(alloc, &s, &parts, locals, function)
 }

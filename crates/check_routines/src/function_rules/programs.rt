@@ -121,6 +121,5 @@ pub fn check_program(
     let variables = list.as_slice();
     let s = tables.scope(alloc, None, false, variables)?;
     let parts = parts_of(tables);
-    let c = check_in(alloc, &s, &parts, program)?;
-    Ok(c)
+    check_in(alloc, &s, &parts, program)
 }

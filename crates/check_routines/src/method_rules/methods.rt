@@ -99,6 +99,5 @@ pub fn check_method(
     let locals = list.as_slice();
     let s = tables.scope(alloc, Some(class), true, locals)?;
     let parts = parts_of(tables);
-    let c = check_in(alloc, &s, &parts, locals, method)?;
-    Ok(c)
+    check_in(alloc, &s, &parts, locals, method)
 }

@@ -75,6 +75,5 @@ pub fn check_prototype(
     let locals = list.as_slice();
     let s = tables.scope(alloc, None, false, locals)?;
     let parts = parts_of(tables);
-    let c = check_in(alloc, &s, &parts, method)?;
-    Ok(c)
+    check_in(alloc, &s, &parts, method)
 }

@@ -1,5 +1,6 @@
 -- What a unit is checked by is of that unit.
 use Rattle.std.proofs.Common.{◌≡◌, ℕ, List, [], None, false, sym, ap, ◌∙◌, subst}
+use Rattle.std.specs.Prelude.{Result, IfErr, IfOk}
 use Rattle.plc_text.specs.declared.denied.Denied.{Denied}
 use Rattle.st_tree.specs.declared.program.Program.{Program}
 use Rattle.st_tree.specs.declared.unit.Decl.{Decl}
@@ -27,10 +28,10 @@ serves x u ds e s p d k t h = record {
   heights = h ∙ sym e;
 }
 
--- of the unit, whose declarations are lent
+-- what is answered of the declarations is answered of the unit that lends them
 module _ (ds : List (Decl ℕ)) (u : ProgramText) (lent : ds ≡ u.decls) where
-  pub good_of : (p : Program) → IsGood ds × IsChecked ds p → IsGood u.decls × IsChecked u.decls p
-  good_of p h = subst (λ (xs : List (Decl ℕ)). IsGood xs × IsChecked xs p) lent h
+  pub good_of : (r : Result Program Denied) → IfOk r (λ p. IsGood ds × IsChecked ds p) → IfOk r (λ p. IsGood u.decls × IsChecked u.decls p)
+  good_of r h = subst (λ (xs : List (Decl ℕ)). IfOk r (λ p. IsGood xs × IsChecked xs p)) lent h
 
-  pub refused_of : (e : Denied) → OnRefused e (λ r. UnitRefusal ds r.code r.declaration r.line) → OnRefused e (λ r. UnitRefusal u.decls r.code r.declaration r.line)
-  refused_of e h = subst (λ (xs : List (Decl ℕ)). OnRefused e (λ r. UnitRefusal xs r.code r.declaration r.line)) lent h
+  pub refused_of : (r : Result Program Denied) → IfErr r (λ e. OnRefused e (λ x. UnitRefusal ds x.code x.declaration x.line)) → IfErr r (λ e. OnRefused e (λ x. UnitRefusal u.decls x.code x.declaration x.line))
+  refused_of r h = subst (λ (xs : List (Decl ℕ)). IfErr r (λ e. OnRefused e (λ x. UnitRefusal xs x.code x.declaration x.line))) lent h

@@ -1,11 +1,12 @@
 //! A whole unit.
 
-ghost use Rattle.std.specs.Prelude.{◌≡◌, IfErr, IfOk};
+ghost use Rattle.std.specs.Prelude.{◌≡◌, [], None, false, IfErr, IfOk};
 ghost use Rattle.st_unit_rules.specs.passing_laws.Passing.{AllDeclsGood, no_declarations};
 ghost use Rattle.st_unit_rules.specs.passing_laws.PassingLaws.{all_of};
 ghost use Rattle.st_unit_rules.specs.Checked.{IsChecked};
 ghost use Rattle.st_unit_rules.specs.RefusalLaws.{IsGood};
 ghost use Rattle.st_unit_rules.specs.UnitRefusal.{IsFirstBad, UnitRefusal};
+ghost use Rattle.symbol_table.specs.unit_tables.Scopes.{scope_in};
 ghost use Rattle.st_check_decl.specs.unit_check.Checking.{OnRefused};
 ghost use Rattle.st_check_decl.specs.unit_check.Private.Progress.{Reached};
 ghost use Rattle.st_check_decl.specs.unit_check.Private.Refused.{IfRule};
@@ -21,6 +22,7 @@ use check_configurations::UnitPrograms;
 use check_limits::InterfaceHeights;
 use check_names::member_names::MemberNames;
 use check_signatures::unit_signatures::unit_signatures;
+use name_resolution::Scope;
 use plc_text::Denied;
 use st_tree::{Decl, Program, Unit};
 use std::alloc::Global;
@@ -51,23 +53,26 @@ fn check_by(alloc: Global, side: &CheckSide<'_, '_>, decls: &[Decl<u32>]) -> Res
     }
 }
 
-/// Checks a unit: its checked program, or why it is refused: the name of its first bad declaration, with the least rule that it breaks at
-/// its least line; E15 for `-` at line 1, where all are good and there is no CONFIGURATION. It takes time linear in the unit but for what
-/// `unit_names` and `unit_signatures` say, and for initial values that many globals of one item share: each has one of its own.
-pub fn check(alloc: Global, unit: &Unit) -> Result<Program, Denied>
+/// Checks a unit in its scope, by its tables.
+fn check_in<'a>(
+    alloc: Global,
+    unit: &Unit,
+    tables: &'a UnitTables<'_>,
+    scope: &'a Scope<'a>,
+) -> Result<Program, Denied>
+    requires tables { tables.now ≡ unit.now }
+    requires scope { scope.now ≡ scope_in tables.now.decls None false [] }
     ensures ok { IfOk result (λ p. IsGood unit.now.decls × IsChecked unit.now.decls p) }
     ensures err { IfErr result (λ e. OnRefused e (λ r. UnitRefusal unit.now.decls r.code r.declaration r.line)) }
 {
     let decls = unit.decls.as_slice();
-    let tables = UnitTables::build(alloc, unit)?;
-    let scope = tables.scope(alloc, None, false, &[])?;
-    let programs = UnitPrograms::build(alloc, &tables)?;
-    let names = MemberNames::build(alloc, decls)?;
-    let signatures = unit_signatures(alloc, &tables)?;
     let heights = InterfaceHeights::build(alloc, unit, tables.class_tables())?;
+    let names = MemberNames::build(alloc, decls)?;
+    let programs = UnitPrograms::build(alloc, tables)?;
+    let signatures = unit_signatures(alloc, tables)?;
     let side = CheckSide {
-        tables: &tables,
-        scope: &scope,
+        tables,
+        scope,
         programs: &programs,
         classes: ClassSide {
             names: &names,
@@ -75,6 +80,17 @@ pub fn check(alloc: Global, unit: &Unit) -> Result<Program, Denied>
         },
         heights: &heights,
     };
-    let program = check_by(alloc, &side, decls)?;
-    Ok(program)
+    check_by(alloc, &side, decls)
+}
+
+/// Checks a unit: its checked program, or why it is refused: the name of its first bad declaration, with the least rule that it breaks at
+/// its least line; E15 for `-` at line 1, where all are good and there is no CONFIGURATION. It takes time linear in the unit but for what
+/// `unit_names` and `unit_signatures` say, and for initial values that many globals of one item share: each has one of its own.
+pub fn check(alloc: Global, unit: &Unit) -> Result<Program, Denied>
+    ensures ok { IfOk result (λ p. IsGood unit.now.decls × IsChecked unit.now.decls p) }
+    ensures err { IfErr result (λ e. OnRefused e (λ r. UnitRefusal unit.now.decls r.code r.declaration r.line)) }
+{
+    let tables = UnitTables::build(alloc, unit)?;
+    let scope = tables.scope(alloc, None, false, &[])?;
+    check_in(alloc, unit, &tables, &scope)
 }

@@ -23,10 +23,7 @@ use std::alloc::Global;
 fn program_of(progress: Progress, tasks: Items<TaskDecl>) -> Program
     ensures { IsMadeOf result progress tasks }
 {
-    let Progress {
-        declarations,
-        regions,
-    } = progress;
+    let (declarations, regions) = progress.into_parts();
     let CheckedSoFar { before: _, trees } = declarations;
     let CheckedRegions { taken: _, regions } = regions;
     let Trees {
