@@ -20,4 +20,5 @@ pub mod Bytes
 pub mod Scopes
 pub mod Locals
 pub mod Bodies
+pub mod Promised
 mod Whole

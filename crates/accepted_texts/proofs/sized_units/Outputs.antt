@@ -399,7 +399,7 @@ counts_same n (x ∷ xs) h = by (has_bit n x) (bit_in n (bits_located x)) (bit_s
     by true false e k = cc
     by false true e k = cc
 
-every_has : {A : Type 0} (P : A → Type 0) (xs : List A) (x : A) → Every P xs → Has xs x → P x
+pub every_has : {A : Type 0} (P : A → Type 0) (xs : List A) (x : A) → Every P xs → Has xs x → P x
 every_has P [] x h k = absurd k
 every_has P (y ∷ xs) x h (inl e) = subst P (sym e) h.0
 every_has P (y ∷ xs) x h (inr k) = every_has P xs x h.1 k

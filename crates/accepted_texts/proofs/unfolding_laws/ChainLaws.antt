@@ -18,7 +18,7 @@ use Rattle.st_rules.proofs.ClassLaws.{bases_within}
 use Rattle.st_unit_rules.specs.declared_names.UnitNames.{unit_names, class_scope}
 use Rattle.st_unit_rules.specs.declared_names.Variables as written
 use Rattle.st_unit_rules.specs.Checked.{Each, EachFrom, IfThere, TypedUsed, TypedSection, TypedMember, TypedClass, class_meant}
-use Rattle.st_values.specs.Program.{Variable, Class, class_at, chain_of, own_of, own_variables, class_variables}
+use Rattle.st_values.specs.Program.{Variable, a_program, Class, class_at, chain_of, own_of, own_variables, class_variables}
 use Rattle.st_values.specs.View.{variables_in, is_kept, those, sections_in, class_of, classes_from, programs_from, program_of}
 use Rattle.resolution_order.specs.told_laws.ToldLaws.{Every}
 use Rattle.accepted_texts.proofs.unfolding_laws.ListLaws.{every_append, every_reversed, There, there_below, front_get, back_get, from_get, from_long}
@@ -105,6 +105,7 @@ module _ (classes : List (ClassDecl Note)) (interfaces : List (InterfaceDecl Not
 
 -- a program among the classes
 pub record IsProgram (c : ℕ) (d : ProgramDecl Note) (k : Class) : Type 0 where
+  pub sort : k.sort ≡ a_program
   pub chain : k.chain ≡ c ∷ []
   pub own : k.own ≡ those is_kept (variables_in d.sections)
 
@@ -112,7 +113,7 @@ program_from : (c : ℕ) (ds : List (ProgramDecl Note)) (i : ℕ) (d : ProgramDe
 program_from c [] i d e = absurd (none≢some e)
 program_from c (x ∷ ds) zero d e =
     let q : c ≡ c + 0 = omega arith in
-    (_, refl, record { chain = ap (λ n. n ∷ []) q; own = ap (λ (y : ProgramDecl Note). those is_kept (variables_in y.sections)) (some-same e) })
+    (_, refl, record { sort = refl; chain = ap (λ n. n ∷ []) q; own = ap (λ (y : ProgramDecl Note). those is_kept (variables_in y.sections)) (some-same e) })
 program_from c (x ∷ ds) (suc i) d e =
     let q : suc c + i ≡ c + suc i = omega arith in
     let r = program_from (suc c) ds i d e in
