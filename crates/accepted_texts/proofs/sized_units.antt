@@ -20,4 +20,4 @@ pub mod Bytes
 pub mod Scopes
 pub mod Locals
 pub mod Bodies
-mod Whole
+pub mod Whole
