@@ -16,17 +16,17 @@ pub trait Checker: Judge {
     /// A text is accepted, as this checked program.
     ghost holds: { List ℕ → CheckedProgram → Type 0 };
 
-    /// As one at most.
-    ghost one: { (text : List ℕ) (p q : CheckedProgram) → holds text p → holds text q → p ≡ q };
-
-    /// Its meaning is that of the program.
-    ghost seen: { (text : List ℕ) (p : CheckedProgram) → holds text p → Self.accepts text (program_of p) };
-
     /// The program that a text is accepted as, or with what it is refused.
     fn check(alloc: Global, text: &Text) -> Result<Program, Denied>
         ensures held { IfOk result (λ program. Self.holds text.now program) }
         ensures accepted { IfOk result (λ program. Self.accepts text.now (program_of program)) }
         ensures refused { IfErr result (λ denied. OnRefused denied (Self.refuses text.now)) };
+
+    /// It is accepted as one at most.
+    ghost one: { (text : List ℕ) (p q : CheckedProgram) → holds text p → holds text q → p ≡ q };
+
+    /// Its meaning is that of the program.
+    ghost seen: { (text : List ℕ) (p : CheckedProgram) → holds text p → Self.accepts text (program_of p) };
 
     /// What each accepted program keeps.
     ghost kept: { (text : List ℕ) (p : PlainProgram) → Self.accepts text p → IsKept p };

@@ -30,13 +30,13 @@ impl Checker for Language {
 
     ghost holds = { Holds };
 
-    ghost one = { one_checked standard_blocks };
-
-    ghost seen = { seen_law standard_blocks };
-
     fn check(alloc: Global, text: &Text) -> Result<Program, Denied> {
         check_source(alloc, text.as_str())
     }
+
+    ghost one = { one_checked standard_blocks };
+
+    ghost seen = { seen_law standard_blocks };
 
     ghost kept = { kept_law };
 }
