@@ -21,4 +21,4 @@ pub mod Scopes
 pub mod Locals
 pub mod Bodies
 pub mod Promised
-mod Whole
+pub mod Whole

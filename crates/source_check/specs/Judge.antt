@@ -18,5 +18,8 @@ pub record IsAcceptedAs (prelude text : List ℕ) (p : Program) : Type 0 where
 abbrev pub Accepts : List ℕ → Program → Type 0
 Accepts = IsAcceptedAs standard_blocks
 
+abbrev pub Holds : List ℕ → CheckedProgram → Type 0
+Holds = Accepted standard_blocks
+
 abbrev pub Refuses : List ℕ → Refusal → Type 0
 Refuses = IsRefusal standard_blocks

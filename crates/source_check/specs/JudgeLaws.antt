@@ -1,4 +1,4 @@
--- The language judges: one program or one refusal, and regions whose types unfold.
+-- The language judges: one program or one refusal, and each program keeps what all that runs may rest on.
 use Rattle.std.proofs.Common.{◌≡◌, ℕ, List, false, Option, Some, None, is_some, refl, sym, ap, ◌∙◌, subst}
 use mathlib.Core.Bool.{Bool-set}
 use Rattle.plc_text.specs.Code.{is_e17}
@@ -8,10 +8,14 @@ use Rattle.plc_text.specs.declared.refusal.Refusal.{Refusal}
 use Rattle.st_values.specs.Program.{Program}
 use Rattle.st_values.specs.View.{program_of}
 use Rattle.st_change.specs.Laws.{Judges}
-use Rattle.region_instances.specs.Instances.{RegionsUnfold}
+use Rattle.st_tree.specs.declared.program.Program.{Program as CheckedProgram}
+use Rattle.st_prelude.specs.Blocks.{standard_blocks}
+use Rattle.console_command.specs.Checker.{IsKept}
+use Rattle.accepted_texts.specs.st_accepted.Accepted.{Accepted}
 use Rattle.accepted_texts.proofs.st_accepted.AcceptedLaws.{accepted_laws}
 use Rattle.source_check.specs.Source.{IsRefusal}
 use Rattle.accepted_texts.proofs.unfolding_laws.UnfoldingLaws.{unfolding_laws}
+use Rattle.accepted_texts.proofs.sized_units.Whole.{sized_unit_laws}
 use Rattle.source_check.specs.Judge.{IsAcceptedAs}
 
 -- ---- refusals with the same parts
@@ -57,5 +61,17 @@ module _ (prelude : List ℕ) where
   pub judges : Judges (IsAcceptedAs prelude) (IsRefusal prelude)
   judges = record { one_program = one_program; one_refusal = one_refusal; not_both = not_both }
 
-  pub unfolds : (text : List ℕ) (p : Program) → IsAcceptedAs prelude text p → RegionsUnfold p
-  unfolds text p a = subst RegionsUnfold a.seen (record { shapes = unfolding_laws.regions a.accepted.whole.decls a.program a.accepted.good a.accepted.checked })
+  pub one_checked : (text : List ℕ) (p q : CheckedProgram) → Accepted prelude text p → Accepted prelude text q → p ≡ q
+  one_checked text p q a b = accepted_laws.one_program prelude text p q a b
+
+  pub seen : (text : List ℕ) (p : CheckedProgram) → Accepted prelude text p → IsAcceptedAs prelude text (program_of p)
+  seen text p a = record { program = p; accepted = a; seen = refl }
+
+pub kept : (text : List ℕ) (p : Program) → IsAcceptedAs standard_blocks text p → IsKept p
+kept text p a =
+    subst IsKept a.seen
+    (record {
+      unfolds = record { shapes = unfolding_laws.regions a.accepted.whole.decls a.program a.accepted.good a.accepted.checked };
+      sized = sized_unit_laws.accepted text a.program a.accepted;
+      outputs = sized_unit_laws.accepted_outputs text a.program a.accepted;
+    })

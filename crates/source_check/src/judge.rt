@@ -25,11 +25,18 @@ impl Judge for Language {
 
 impl Checker for Language {
     ghost use Rattle.st_prelude.specs.Blocks.{standard_blocks};
-    ghost use Rattle.source_check.specs.JudgeLaws.{unfolds as unfolds_law};
+    ghost use Rattle.source_check.specs.Judge.{Holds};
+    ghost use Rattle.source_check.specs.JudgeLaws.{one_checked, seen as seen_law, kept as kept_law};
+
+    ghost holds = { Holds };
 
     fn check(alloc: Global, text: &Text) -> Result<Program, Denied> {
         check_source(alloc, text.as_str())
     }
 
-    ghost unfolds = { unfolds_law standard_blocks };
+    ghost one = { one_checked standard_blocks };
+
+    ghost seen = { seen_law standard_blocks };
+
+    ghost kept = { kept_law };
 }

@@ -6,7 +6,7 @@ use Rattle.console.proofs.check_console.report.first_refusal.Goals as goal
 pub returns-in-Ok : goal.returns-in-Ok
 returns-in-Ok g c =
     first_so g.J.Judge.accepts g.J.Judge.refuses c.args.text.now (program_of c.in-Ok.program) c.load_first-loaded.result c.in-Ok.ensures.accepted
-    (g.met.J.Checker.unfolds c.args.text.now (program_of c.in-Ok.program) c.in-Ok.ensures.accepted) c.load_first-loaded.ensures
+    (g.met.J.Checker.kept c.args.text.now (program_of c.in-Ok.program) c.in-Ok.ensures.accepted).unfolds c.load_first-loaded.ensures
 
 pub returns-in-Err-Refused : goal.returns-in-Err-Refused
 returns-in-Err-Refused g c =

@@ -5,7 +5,7 @@ use Rattle.console.proofs.play_console.ReportLaws.{refused_so}
 use Rattle.console.proofs.play_console.report.report_first.Goals as goal
 
 pub report_accepted-requires : goal.report_accepted-requires
-report_accepted-requires g c = g.met.J.Checker.unfolds c.args.text.now (program_of c.in-Ok.program) c.in-Ok.ensures.accepted
+report_accepted-requires g c = (g.met.J.Checker.kept c.args.text.now (program_of c.in-Ok.program) c.in-Ok.ensures.accepted).unfolds
 
 pub returns-in_ok-report-in-Ok : goal.returns-in_ok-report-in-Ok
 returns-in_ok-report-in-Ok g c = c.in_ok-report-in-Ok.ensures c.args.text.now c.in-Ok.ensures.accepted
