@@ -1,4 +1,4 @@
-//! The modules `unfolding_laws`, `told_units`, `st_accepted`, `formed_units`, `formed_texts`, `sized_units`: each says what it holds.
+//! As definitions and laws: which sources are accepted, and what holds of each that is.
 #![tactic(auto)]
 
 pub mod formed_texts;

@@ -1,4 +1,4 @@
-//! The modules `base_rules`, `member_rules`, `class_limit_rules`, `class_rules`, `interface_rules`: each says what it holds.
+//! Which rules classes, function blocks and interfaces break.
 #![tactic(auto)]
 
 pub mod base_rules;

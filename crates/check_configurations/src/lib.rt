@@ -1,4 +1,4 @@
-//! The modules `config_rules`, `program_instances`, `configuration_rules`, `checked_tasks`: each says what it holds.
+//! Which rules configurations, their tasks and their program instances break, and the tasks of the checked program.
 #![tactic(auto)]
 
 pub mod checked_tasks;

@@ -1,4 +1,4 @@
-//! The modules `type_rules`, `variable_rules`, `entry_rules`: each says what it holds.
+//! Which rules written types, variables and entries of TYPE break, and their typed trees.
 #![tactic(auto)]
 
 pub mod entry_rules;

@@ -1,4 +1,4 @@
-//! The modules `type_sizes`, `limit_rules`, `base_limits`: each says what it holds.
+//! How large and how deep types are, and what is more than it may be.
 #![tactic(auto)]
 
 pub mod base_limits;

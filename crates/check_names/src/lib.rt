@@ -1,4 +1,4 @@
-//! The modules `name_spaces`, `name_rules`, `member_names`, `declarations_before`: each says what it holds.
+//! Names and words that are declared twice or stand where they may not, and what stands before a declaration.
 #![tactic(auto)]
 
 pub mod declarations_before;

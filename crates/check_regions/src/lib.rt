@@ -1,4 +1,4 @@
-//! The modules `shared_bits`, `region_rules`, `unit_regions`: each says what it holds.
+//! The regions of a unit: their order, what they take, and the bits that they share.
 #![tactic(auto)]
 
 pub mod region_rules;

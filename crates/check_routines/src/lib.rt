@@ -1,4 +1,4 @@
-//! The modules `depth_rules`, `routine_rules`, `function_rules`, `method_rules`: each says what it holds.
+//! Which rules functions, methods, methods of interfaces and programs break.
 #![tactic(auto)]
 
 pub mod depth_rules;

@@ -1,4 +1,4 @@
-//! The modules `scope_values`, `unit_signatures`: each says what it holds.
+//! The signatures of all methods of a unit, with what constants come to in their scopes.
 #![tactic(auto)]
 
 pub mod scope_values;

@@ -1,4 +1,4 @@
-//! The modules `console_words`, `play_console`, `check_console`: each says what it holds.
+//! The words of the command line, and what each command says.
 #![tactic(auto)]
 
 pub mod check_console;

@@ -1,4 +1,4 @@
-//! The modules `constant_values`, `constant_rules`, `told_expressions`: each says what it holds.
+//! Constant expressions: what they come to, which parts of them are no constants, and whether all their names are told.
 #![tactic(auto)]
 
 pub mod constant_rules;

@@ -1,4 +1,4 @@
-//! The modules `class_chains`, `untold_names`, `unit_untold`: each says what it holds.
+//! The names that a unit declares, with nothing told of them, and the chains of its classes.
 #![tactic(auto)]
 
 pub mod class_chains;

@@ -1,4 +1,4 @@
-//! The modules `given_values`, `worth_numbers`, `worth_steps`, `initial_worths`, `structure_worths`, `numbered_signatures`: each says what it holds.
+//! What initial values are worth, by numbers that equal values share.
 #![tactic(auto)]
 
 pub mod given_values;

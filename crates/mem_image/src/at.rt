@@ -1,3 +1,5 @@
+//! Places in tables of images.
+
 /// A place in a table of images.
 #[derive(Clone, Copy, Debug, PartialEq, Eq, PartialOrd, Ord, Hash)]
 pub struct At {

@@ -1,4 +1,4 @@
-//! The modules `told_laws`, `told_places`, `telling_list`, `telling_groups`: each says what it holds.
+//! In which order types and constants can be told, and why any order will do.
 #![tactic(auto)]
 
 pub mod telling_groups;

@@ -1,4 +1,4 @@
-//! The modules `checked_declarations`, `unit_check`: each says what it holds.
+//! Whether a unit is refused, and for what, or its checked program.
 #![tactic(auto)]
 
 pub mod checked_declarations;

@@ -1,4 +1,4 @@
-//! The modules `unit_names`, `unit_tables`: each says what it holds.
+//! All that a unit says of its names, as one value and in tables, and the scopes of its texts.
 #![tactic(auto)]
 
 pub mod unit_names;

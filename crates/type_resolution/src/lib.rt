@@ -1,4 +1,4 @@
-//! The modules `written_types`, `declared_variables`, `told_locals`, `told_names`: each says what it holds.
+//! Types and constants of a unit and of its routines, told one by one.
 #![tactic(auto)]
 
 pub mod declared_variables;
