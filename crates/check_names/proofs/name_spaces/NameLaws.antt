@@ -1,5 +1,5 @@
 -- The names of sections and members, and one more name of a space.
-use Rattle.std.proofs.Common.{◌≡◌, ℕ, Bool, true, false, List, [], ◌∷◌, ◌++◌, Option, map, cond, refl, sym, ap, ◌∙◌, append-nil}
+use Rattle.std.proofs.Common.{◌≡◌, ℕ, Bool, true, false, List, [], ◌∷◌, ◌++◌, Option, map, cond, Bor, refl, sym, ap, ◌∙◌, append-nil}
 use Rattle.std.specs.Prelude.{flat_map, ◌||◌}
 use Rattle.std.specs.List.{list_any}
 use Rattle.std.proofs.lemmas.List.{map-append}
@@ -19,6 +19,7 @@ use Rattle.st_rules.proofs.FaultLaws.{earlier-assoc, least-append}
 use Rattle.st_unit_rules.specs.Variables.{Written, item_written, section_written, sections_written}
 use Rattle.st_unit_rules.specs.NameRules.{is_named, declared_before, declared_twice, section_names, member_names, local_named_as_routine}
 use Rattle.check_names.specs.name_spaces.Held.{Holds}
+use Rattle.check_names.specs.name_spaces.NamesIn.{names_of}
 use Rattle.check_names.specs.name_spaces.Private.Items.{item_names, names_in_sections}
 
 -- ---- names of sections
@@ -77,3 +78,8 @@ held_next old new names k n e u h = record {
       ∙ swapped (same n q) (is_named q names) ∙ ap (λ b. is_named q names || (b || false)) (same_even n q)
       ∙ sym (list_any-append (same q) names (n ∷ []));
 }
+
+-- ---- names that are lent, one more
+
+pub lent_next : (old new : List (Bor Name)) (b : Bor Name) → new ≡ old ++ b ∷ [] → names_of new ≡ names_of old ++ b.now ∷ []
+lent_next old new b e = ap names_of e ∙ map-append (λ (n : Bor Name). n.now) old (b ∷ [])
