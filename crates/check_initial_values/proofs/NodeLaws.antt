@@ -23,6 +23,7 @@ use Rattle.check_initial_values.specs.declared.found.CheckedParts.{CheckedParts}
 use Rattle.check_initial_values.specs.declared.found.CheckedField.{CheckedField}
 use Rattle.check_initial_values.specs.declared.found.CheckedFields.{CheckedFields}
 use Rattle.check_initial_values.specs.Walk.{ChecksInitial}
+use Rattle.check_initial_values.specs.declared.fields.NotedName.{NotedName}
 use Rattle.check_initial_values.specs.Private.Nodes.{IsArray, IsFields, IsOne, IsRepeated, IsField}
 use Rattle.check_initial_values.specs.Private.Found.{ValueChecks, array_faults, PartChecks, PartsFind, FieldChecks, FieldsFind}
 use Rattle.check_initial_values.proofs.Parts.{joined}
@@ -60,25 +61,31 @@ module _ (c : CheckedPart) (s : Scope) (t : Option StType) (x : CodePart ℕ) (i
   pub one_arm : x ≡ part.One i → ChecksInitial found s t (initial_of i) → IsOne c found → PartChecks c s t (part_of x)
   one_arm h f w = part_seen c s t x (One (initial_of i)) (ap part_of h ∙ part_of-One i) (record { least = w.least ∙ f.least; part = w.part ∙ ap One f.tree })
 
-  pub repeated_arm : (l : ℕ) (digits : List ℕ) → x ≡ part.Repeated l digits i → ChecksInitial found s t (initial_of i) → IsRepeated c l digits found → PartChecks c s t (part_of x)
-  repeated_arm l digits h f w =
+  pub repeated_arm : (l : ℕ) (digits copy : List ℕ) → x ≡ part.Repeated l digits i → copy ≡ digits → ChecksInitial found s t (initial_of i) → IsRepeated c l copy found → PartChecks c s t (part_of x)
+  repeated_arm l digits copy h e f v =
+      let w : IsRepeated c l digits found = subst (λ (ds : List ℕ). IsRepeated c l ds found) e v in
       part_seen c s t x (Repeated l digits (initial_of i)) (ap part_of h ∙ part_of-Repeated l digits i)
       (record {
         least = joined c.least (least (past_64_bits l (number_of digits))) found.least (past_64_bits l (number_of digits)) (initial_faults s t (initial_of i)) w.least refl f.least;
         part = w.part ∙ ap (Repeated l digits) f.tree;
       })
 
-pub field_arm : (c : CheckedField) (s : Scope) (t : Option StType) (y : FieldInit ℕ) (g : Given) (of : Option StType) (found : CheckedInitial) → g ≡ given_by s t y.name → of ≡ given_type g
-    → ChecksInitial found s of (initial_of y.value) → IsField c y.note y.name g found → FieldChecks c s t y
-field_arm c s t y g of found h k f w =
+pub field_arm : (c : CheckedField) (s : Scope) (t : Option StType) (y : FieldInit ℕ) (g : Given) (of : Option StType) (found : CheckedInitial) (n : NotedName) → g ≡ given_by s t y.name → of ≡ given_type g
+    → n.note ≡ note y.note (given_type g) (given_target g) → n.name ≡ y.name → ChecksInitial found s of (initial_of y.value) → IsField c n found → FieldChecks c s t y
+field_arm c s t y g of found n h k m e f w =
     let at : of ≡ given_type (given_by s t y.name) = k ∙ ap given_type h in
     let checked : ChecksInitial found s (given_type (given_by s t y.name)) (initial_of y.value) = subst (λ (u : Option StType). ChecksInitial found s u (initial_of y.value)) at f in
     record {
       least = w.least ∙ checked.least;
       field = w.field
+          ∙ ap (λ (v : Note). named v n.name (initial_of found.tree)) m
+          ∙ ap (λ (ns : List ℕ). named (note y.note (given_type g) (given_target g)) ns (initial_of found.tree)) e
           ∙ ap (λ (u : Given). as_field y (note y.note (given_type u) (given_target u)) (initial_of found.tree)) h
           ∙ ap (as_field y (note y.note (given_type (given_by s t y.name)) (given_target (given_by s t y.name)))) checked.tree;
     }
   where
+    named : Note → List ℕ → Initial Note → Note × List ℕ × Initial Note
+    named v ns i = (v, ns, i)
+
     as_field : FieldInit ℕ → Note → Initial Note → Note × List ℕ × Initial Note
-    as_field z n i = (n, z.name, i)
+    as_field z v i = (v, z.name, i)

@@ -2,7 +2,6 @@
 
 ghost use Rattle.std.specs.Prelude.{◌≡◌, ◌∷◌, [], ◌++◌, List, ℕ, Some, IfOk};
 ghost use Rattle.st_types.specs.declared.st_type.StType.TheVariants as kinds;
-ghost use Rattle.st_tree.specs.Initial.{initial_of, field_of};
 ghost use Rattle.st_rules.specs.Expressions as expressions;
 ghost use Rattle.st_rules.specs.Faults.{least};
 ghost use Rattle.st_unit_rules.specs.Initials as initials;
@@ -16,7 +15,7 @@ use constant_faults::check_places::note;
 use constant_faults::name_resolution::Scope;
 use plc_text::{Code, NoMemory, Text};
 use st_rules::{DeclaredField, DeclaredVariable, earlier, when};
-use st_tree::{FieldInit, Init, Note, Target};
+use st_tree::{FieldInit, Note, Target};
 use st_types::StType;
 use std::alloc::Global;
 
@@ -134,22 +133,28 @@ pub fn copied(alloc: Global, kind: Option<&StType>) -> Result<Option<StType>, No
     }
 }
 
-/// A value with its name, whose note says what the name means.
-pub fn noted_field(
+/// A name in a list, and the note that says what it means.
+#[derive(Drop)]
+pub struct NotedName {
+    pub note: Note,
+    pub name: Text,
+}
+
+/// A name at this line that means this.
+pub fn noted_name(
     alloc: Global,
     line: u32,
     name: &Text,
     g: Given<'_>,
-    value: Init<Note>,
-) -> Result<FieldInit<Note>, NoMemory>
-    ensures { IfOk result (λ f. field_of f ≡ ((expressions.note line (initials.given_type (meant g.entry)) (initials.given_target (meant g.entry))), name.now, (initial_of value))) }
+) -> Result<NotedName, NoMemory>
+    ensures note { IfOk result (λ n. n.note ≡ expressions.note line (initials.given_type (meant g.entry)) (initials.given_target (meant g.entry))) }
+    ensures name { IfOk result (λ n. n.name ≡ name.now) }
 {
     let kind = copied(alloc, given_type(g))?;
     let name = Text::copy(alloc, name.as_str())?;
-    Ok(FieldInit {
+    Ok(NotedName {
         note: note(line, kind, given_target(g)),
         name,
-        value,
     })
 }
 

@@ -4,14 +4,13 @@ ghost use Rattle.std.specs.Prelude.{◌≡◌, IfOk};
 ghost use Rattle.st_tree.specs.Number as number;
 ghost use Rattle.st_rules.specs.Faults.{least};
 ghost use Rattle.st_rules.specs.Literals.{past_64_bits};
-ghost use Rattle.check_initial_values.specs.Fields.{meant};
 ghost use Rattle.check_initial_values.specs.Private.Nodes.{IsArray, IsFields, IsOne, IsRepeated, NoParts, AddsPart, NoFields, AddsField, IsField};
 
-use crate::fields::{Given, noted_field};
+use crate::fields::NotedName;
 use crate::found::{CheckedField, CheckedFields, CheckedInitial, CheckedPart, CheckedParts};
 use plc_text::{Code, Items, NoMemory, Text};
 use st_rules::{earlier, when};
-use st_tree::{Init, Part, number_of};
+use st_tree::{FieldInit, Init, Part, number_of};
 use std::alloc::Global;
 
 /// A list in brackets, which breaks this by itself.
@@ -59,21 +58,15 @@ fn count_fault(line: u32, digits: &Text) -> Option<(Code, u32)>
 
 /// A value that a list has so many times.
 #[tactic(auto, using(st_tree::specs::Initial::initial_views))]
-pub fn repeated_of(
-    alloc: Global,
-    line: u32,
-    digits: &Text,
-    found: CheckedInitial,
-) -> Result<CheckedPart, NoMemory>
-    ensures { IfOk result (λ c. IsRepeated c line digits.now found) }
+pub fn repeated_of(line: u32, digits: Text, found: CheckedInitial) -> CheckedPart
+    ensures { IsRepeated result line digits found }
 {
     let CheckedInitial { least, tree } = found;
-    let own = count_fault(line, digits);
-    let digits = Text::copy(alloc, digits.as_str())?;
-    Ok(CheckedPart {
+    let own = count_fault(line, &digits);
+    CheckedPart {
         least: earlier(own, least),
         part: Part::Repeated(line, digits, tree),
-    })
+    }
 }
 
 /// No part.
@@ -126,17 +119,18 @@ pub fn with_field(
     })
 }
 
-/// A value for a name that means this.
-pub fn field_of(
-    alloc: Global,
-    line: u32,
-    name: &Text,
-    g: Given<'_>,
-    found: CheckedInitial,
-) -> Result<CheckedField, NoMemory>
-    ensures { IfOk result (λ c. IsField c line name.now (meant g.entry) found) }
+/// A value for a name.
+pub fn field_of(named: NotedName, found: CheckedInitial) -> CheckedField
+    ensures { IsField result named found }
 {
+    let NotedName { note, name } = named;
     let CheckedInitial { least, tree } = found;
-    let field = noted_field(alloc, line, name, g, tree)?;
-    Ok(CheckedField { least, field })
+    CheckedField {
+        least,
+        field: FieldInit {
+            note,
+            name,
+            value: tree,
+        },
+    }
 }

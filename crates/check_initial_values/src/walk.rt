@@ -9,7 +9,7 @@ ghost use Rattle.check_initial_values.specs.Lent.{lent};
 ghost use Rattle.check_initial_values.specs.Private.Found.{array_faults, ValueChecks, PartChecks, PartsFind, FieldChecks, FieldsFind};
 
 use crate::counts::{count_fault, count_parts, element_given, no_array_fault};
-use crate::fields::{copied, given_by, given_type, name_fault, no_fields_fault};
+use crate::fields::{copied, given_by, given_type, name_fault, no_fields_fault, noted_name};
 use crate::found::{CheckedField, CheckedFields, CheckedInitial, CheckedPart, CheckedParts};
 use crate::nodes::{
     array_of, field_of, fields_of, no_field, no_part, one_of, repeated_of, with_field, with_part,
@@ -18,7 +18,7 @@ use crate::worth::with_value;
 use check_names::name_spaces::HeldNames;
 use constant_faults::name_resolution::Scope;
 use constant_faults::{Constant, check_constant};
-use plc_text::{Code, NoMemory};
+use plc_text::{Code, NoMemory, Text};
 use st_operators::asked_of;
 use st_rules::earlier;
 use st_tree::{Expr, FieldInit, Init, Part};
@@ -124,9 +124,10 @@ fn check_part(
             Ok(one_of(x))
         }
         Part::Repeated(line, digits, init) => {
+            // before the tree, which nothing holds where this can fail
+            let digits = Text::copy(alloc, digits.as_str())?;
             let x = check_initial(alloc, s, init, kind)?;
-            let c = repeated_of(alloc, *line, digits, x)?;
-            Ok(c)
+            Ok(repeated_of(*line, digits, x))
         }
     }
 }
@@ -162,7 +163,7 @@ fn check_field(
     ensures { IfOk result (λ x. FieldChecks x s.now (lent kind.entry) field.now) }
 {
     let g = given_by(s, kind, &field.name);
+    let named = noted_name(alloc, field.note, &field.name, g)?;
     let x = check_initial(alloc, s, &field.value, given_type(g))?;
-    let c = field_of(alloc, field.note, &field.name, g, x)?;
-    Ok(c)
+    Ok(field_of(named, x))
 }

@@ -4,9 +4,8 @@ use Rattle.plc_text.specs.declared.code.Code.{Code}
 use Rattle.st_tree.specs.Initial.{Initial, Array, Fields, Part, One, Repeated, initial_of, part_of, field_of, parts_of, fields_of}
 use Rattle.st_tree.specs.Number.{number_of}
 use Rattle.st_rules.specs.Faults.{least, earlier}
-use Rattle.st_rules.specs.Expressions.{note}
 use Rattle.st_rules.specs.Literals.{past_64_bits}
-use Rattle.st_unit_rules.specs.Initials.{Given, given_type, given_target}
+use Rattle.check_initial_values.specs.declared.fields.NotedName.{NotedName}
 use Rattle.check_initial_values.specs.declared.found.CheckedInitial.{CheckedInitial}
 use Rattle.check_initial_values.specs.declared.found.CheckedPart.{CheckedPart}
 use Rattle.check_initial_values.specs.declared.found.CheckedParts.{CheckedParts}
@@ -46,7 +45,7 @@ pub record AddsField (x before : CheckedFields) (name : Option (Code × ℕ)) (o
   pub least : x.least ≡ earlier before.least (earlier name one.least)
   pub fields : map field_of x.fields ≡ map field_of before.fields ++ field_of one.field ∷ []
 
--- a value for a name that means this
-pub record IsField (c : CheckedField) (line : ℕ) (name : List ℕ) (g : Given) (found : CheckedInitial) : Type 0 where
+-- a value for a name
+pub record IsField (c : CheckedField) (n : NotedName) (found : CheckedInitial) : Type 0 where
   pub least : c.least ≡ found.least
-  pub field : field_of c.field ≡ ((note line (given_type g) (given_target g)), name, (initial_of found.tree))
+  pub field : field_of c.field ≡ (n.note, n.name, (initial_of found.tree))

@@ -1,3 +1,4 @@
+use Rattle.std.proofs.Common.{◌∙◌}
 use Rattle.check_initial_values.proofs.ListLaws.{parts_begun, parts_next, parts_ended, fields_begun, fields_next, fields_ended}
 use Rattle.check_initial_values.proofs.NodeLaws.{value_arm, array_arm, fields_arm, one_arm, repeated_arm, field_arm}
 use Rattle.check_initial_values.proofs.walk.+initial.Goals as goal
@@ -27,8 +28,9 @@ check_parts-returns t c = parts_ended _ _ _ _ _ _ c.loop-part-test.false c.loop-
 pub check_part-returns-in_ok-x-in-One : goal.check_part-returns-in_ok-x-in-One
 check_part-returns-in_ok-x-in-One t c = one_arm _ _ _ _ _ _ c.in-One.is c.in_ok-x-in-One.ensures c.one_of.ensures
 
-pub check_part-returns-in_ok-c-in-Repeated : goal.check_part-returns-in_ok-c-in-Repeated
-check_part-returns-in_ok-c-in-Repeated t c = repeated_arm _ _ _ _ _ _ _ _ c.in-Repeated.is c.in_ok-x-in-Repeated.ensures c.in_ok-c-in-Repeated.ensures
+pub check_part-returns-in_ok-x-in-Repeated : goal.check_part-returns-in_ok-x-in-Repeated
+check_part-returns-in_ok-x-in-Repeated t c =
+    repeated_arm _ _ _ _ _ _ _ _ _ c.in-Repeated.is (c.in_ok-digits-in-Repeated.ensures ∙ c.as_str.ensures) c.in_ok-x-in-Repeated.ensures c.repeated_of.ensures
 
 -- ---- values with names
 
@@ -43,4 +45,5 @@ pub check_fields-returns : goal.check_fields-returns
 check_fields-returns t c = fields_ended _ _ _ _ _ _ c.loop-field-test.false c.loop-field.invariant
 
 pub check_field-returns : goal.check_field-returns
-check_field-returns t c = field_arm _ _ _ _ _ _ _ c.given_by-g.ensures c.given_type.ensures c.in_ok-x.ensures c.in_ok-c.ensures
+check_field-returns t c =
+    field_arm _ _ _ _ _ _ _ _ c.given_by-g.ensures c.given_type.ensures c.in_ok-named.ensures.note c.in_ok-named.ensures.name c.in_ok-x.ensures c.field_of.ensures
