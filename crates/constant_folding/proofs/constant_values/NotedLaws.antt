@@ -79,7 +79,8 @@ value_ref n p = ap noted_value (sym (expression_of-Ref n p))
 pub value_now : (n : Note) → cannot_be_told ≡ noted_value (expression_of (code.Now n))
 value_now n = ap noted_value (sym (expression_of-Now n))
 
-pub ruleset leaf_values = (value_true, value_false, value_null, value_ref, value_now)
+pub leaf_arm : (r : Outcome) (e x : Expr Note) → e ≡ x → r ≡ noted_value (expression_of x) → r ≡ noted_value (expression_of e)
+leaf_arm r e x h k = k ∙ ap (λ y. noted_value (expression_of y)) (sym h)
 
 -- ---- `-`
 

@@ -42,7 +42,8 @@ told_ref s l p = ap (names_are_told s) (sym (expression_of-Ref l p))
 pub told_now : (s : Scope) (l : ℕ) → true ≡ names_are_told s (expression_of (code.Now l))
 told_now s l = ap (names_are_told s) (sym (expression_of-Now l))
 
-pub ruleset leaf_told = (told_int, told_typed, told_time, told_true, told_false, told_null, told_ref, told_now)
+pub leaf_arm : (s : Scope) (e x : Expr ℕ) → e ≡ x → true ≡ names_are_told s (expression_of x) → true ≡ names_are_told s (expression_of e)
+leaf_arm s e x h k = k ∙ ap (λ y. names_are_told s (expression_of y)) (sym h)
 
 -- ---- one part
 

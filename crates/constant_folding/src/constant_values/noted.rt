@@ -60,7 +60,6 @@ fn int_digits(e: &Expr<Note>) -> Option<&Text>
 /// The value of a constant expression by its typed tree: of literals, constants, enumerators, conversions, and operators over them, with
 /// the meaning that they have at run time. Of anything else no value can be told.
 #[cycle(noted)]
-#[tactic(auto, using(crate::proofs::constant_values::NotedLaws::leaf_values))]
 pub fn noted_value(tree: &Expr<Note>) -> Outcome
     ensures { outcome result ≡ noted.noted_value (expression_of tree.now) }
 {

@@ -49,7 +49,6 @@ fn both(a: bool, b: bool) -> bool
 
 /// Whether each name in an expression means a constant whose value is told, or an enumerator; also where AND_THEN or OR_ELSE skips it.
 #[cycle(told)]
-#[tactic(auto, using(crate::proofs::told_expressions::ToldLaws::leaf_told))]
 pub fn names_are_told(s: &Scope<'_>, e: &Expr<u32>) -> bool
     ensures { result ≡ constants.names_are_told s.now (expression_of e.now) }
 {

@@ -1,4 +1,4 @@
-use Rattle.constant_folding.proofs.constant_values.NotedLaws.{int_arm, typed_arm, time_arm, place_arm, enumerator_arm, paren_arm, not_arm, negate_arm, chain_arm, call_arm, negated_int, negated_part, row_begun, row_next, row_ended, operand_first, operand_none, positional_given, input_given, output_given}
+use Rattle.constant_folding.proofs.constant_values.NotedLaws.{value_true, value_false, value_null, value_ref, value_now, leaf_arm, int_arm, typed_arm, time_arm, place_arm, enumerator_arm, paren_arm, not_arm, negate_arm, chain_arm, call_arm, negated_int, negated_part, row_begun, row_next, row_ended, operand_first, operand_none, positional_given, input_given, output_given}
 use Rattle.constant_folding.proofs.constant_values.noted.+noted.Goals as goal
 
 pub noted_value-returns-in-Int : goal.noted_value-returns-in-Int
@@ -30,6 +30,21 @@ noted_value-returns-in-Negate t c = negate_arm _ _ _ _ _ c.in-Negate.is c.get-in
 
 pub noted_value-returns-in-Chain : goal.noted_value-returns-in-Chain
 noted_value-returns-in-Chain t c = chain_arm _ _ _ _ _ _ _ _ c.in-Chain.is c.get-in-Chain.ensures c.as_slice-in-Chain.ensures c.noted_value-front.ensures c.row_value.ensures
+
+pub noted_value-returns-in-True : goal.noted_value-returns-in-True
+noted_value-returns-in-True t c = leaf_arm _ _ _ c.in-True.is (value_true _)
+
+pub noted_value-returns-in-False : goal.noted_value-returns-in-False
+noted_value-returns-in-False t c = leaf_arm _ _ _ c.in-False.is (value_false _)
+
+pub noted_value-returns-in-Null : goal.noted_value-returns-in-Null
+noted_value-returns-in-Null t c = leaf_arm _ _ _ c.in-Null.is (value_null _)
+
+pub noted_value-returns-in-Ref : goal.noted_value-returns-in-Ref
+noted_value-returns-in-Ref t c = leaf_arm _ _ _ c.in-Ref.is (value_ref _ _)
+
+pub noted_value-returns-in-Now : goal.noted_value-returns-in-Now
+noted_value-returns-in-Now t c = leaf_arm _ _ _ c.in-Now.is (value_now _)
 
 pub row_value-loop-tail-init : goal.row_value-loop-tail-init
 row_value-loop-tail-init t c = row_begun _ _
