@@ -1,5 +1,5 @@
 -- The room that is left behind the operators of a node, from that behind its parts.
-use Rattle.std.proofs.Common.{◌≡◌, ℕ, ◌+◌, ◌<◌, suc, Bool, true, false, List, Option, Some, None, sym, ap, ◌∙◌, subst, arith}
+use Rattle.std.proofs.Common.{◌≡◌, ℕ, ◌+◌, ◌<◌, ◌≤◌, suc, Bool, true, false, List, [], ◌∷◌, length, get_or, drop, Option, Some, None, refl, sym, ap, ◌∙◌, subst, arith}
 use Rattle.std.specs.Prelude.{if◌then◌else◌}
 use Rattle.st_tree.specs.declared.expression.Argument.{Argument as CodeArgument}
 use Rattle.st_tree.specs.declared.expression.Expr.{Expr}
@@ -7,9 +7,11 @@ use Rattle.st_tree.specs.declared.expression.Expr.TheVariants as code
 use Rattle.st_tree.specs.declared.expression.Place.{Place as CodePlace}
 use Rattle.st_tree.specs.declared.expression.Selector.{Selector as CodeSelector}
 use Rattle.st_tree.specs.declared.expression.Tail.{Tail}
-use Rattle.st_tree.specs.Expression.{Expression, expression_of, expression_of-Negate, expression_of-Chain, tails_of, selectors_of, arguments_of}
+use Rattle.st_tree.specs.Expression as tree
+use Rattle.st_tree.specs.Expression.{Expression, Selector, Field, Index, Selectors, selector_then, Argument, Positional, Input, Output, Arguments, argument_then, expression_of, expression_of-Negate, expression_of-Chain, tails_of, selectors_of, arguments_of}
 use Rattle.st_rules.specs.Expressions.{is_int, operators, tail_operators, selector_operators, argument_operators}
-use Rattle.check_nodes.specs.Private.Count.{Leaves}
+use Rattle.st_rules.proofs.ListLaws.{drop-at, drop-end}
+use Rattle.check_nodes.specs.Private.Count.{Leaves, selector_count, argument_count}
 use Rattle.check_nodes.proofs.ViewLaws.{place_is, ref_is, call_is}
 
 -- ---- room
@@ -38,10 +40,34 @@ first_over room n m k h p = omega arith
 pub one_over : (room m k : ℕ) → k ≡ suc m → room < 1 → room < k
 one_over room m k h p = omega arith
 
+-- the parts of a list one by one, by what the rest of them takes
+module _ {X : Type 0} (takes : List X → ℕ) (xs : List X) (room left i : ℕ) where
+  pub room_next : (x : X) (size new : ℕ) → i < length xs → x ≡ get_or xs i x → takes (x ∷ drop (i + 1) xs) ≡ size + takes (drop (i + 1) xs) → new + size ≡ left → left + takes xs ≡ room + takes (drop i xs) → new + takes xs ≡ room + takes (drop (i + 1) xs)
+  room_next x size new l e g h rest = let d : takes (drop i xs) ≡ size + takes (drop (i + 1) xs) = ap takes (drop-at xs i x l e) ∙ g in omega arith
+
+  pub room_over : (x : X) (size : ℕ) → i < length xs → x ≡ get_or xs i x → takes (x ∷ drop (i + 1) xs) ≡ size + takes (drop (i + 1) xs) → left < size → left + takes xs ≡ room + takes (drop i xs) → room < takes xs
+  room_over x size l e g h rest = let d : takes (drop i xs) ≡ size + takes (drop (i + 1) xs) = ap takes (drop-at xs i x l e) ∙ g in omega arith
+
+  pub room_ended : takes [] ≡ 0 → length xs ≤ i → left + takes xs ≡ room + takes (drop i xs) → left + takes xs ≡ room
+  room_ended z l rest = let d : takes (drop i xs) ≡ 0 = ap takes (drop-end xs i l) ∙ z in omega arith
+
 -- ---- operators of nodes
 
 abbrev pub count : Expression ℕ → ℕ
 count x = operators x
+
+pub tail_first : (n m : ℕ) → suc (n + m) ≡ (n + 1) + m
+tail_first n m = omega arith
+
+pub selector_first : (x : Selector ℕ) (xs : Selectors ℕ) → selector_operators (selector_then x xs) ≡ selector_count x + selector_operators xs
+selector_first (Field a n) xs = let e : selector_operators xs ≡ 0 + selector_operators xs = omega arith in e
+selector_first (Index a es) xs = refl
+selector_first (tree.Target a) xs = let e : selector_operators xs ≡ 0 + selector_operators xs = omega arith in e
+
+pub argument_first : (x : Argument ℕ) (xs : Arguments ℕ) → argument_operators (argument_then x xs) ≡ argument_count x + argument_operators xs
+argument_first (Positional e) xs = refl
+argument_first (Input a n e) xs = refl
+argument_first (Output a n b r ss) xs = refl
 
 pub place_count : (e : Expr ℕ) (l : ℕ) (p : CodePlace ℕ) (ss : List (CodeSelector ℕ)) → e ≡ code.Place l p → ss ≡ p.selectors → count (expression_of e) ≡ selector_operators (selectors_of ss)
 place_count e l p ss h q = ap count (ap expression_of h ∙ place_is l p) ∙ ap (λ (us : List (CodeSelector ℕ)). selector_operators (selectors_of us)) (sym q)

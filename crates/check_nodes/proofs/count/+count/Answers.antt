@@ -1,9 +1,9 @@
-use Rattle.std.proofs.Common.{refl, sym, ap, ◌∙◌}
-use Rattle.st_tree.specs.Expression.{expression_of, expression_of-Int, expression_of-Typed, expression_of-Time, expression_of-True, expression_of-False, expression_of-Null, expression_of-Enumerator, expression_of-Now, expression_of-Paren, expression_of-Not, expressions_of, selector_of, selector_of-Field, selector_of-Index, selector_of-Target, selectors_of, argument_of, argument_of-Positional, argument_of-Input, tail_of-operand}
-use Rattle.st_rules.specs.Expressions.{index_operators, selector_operators}
+use Rattle.std.proofs.Common.{◌+◌, drop, refl, sym, ap, ◌∙◌}
+use Rattle.st_tree.specs.Expression.{expression_of, expression_of-Int, expression_of-Typed, expression_of-Time, expression_of-True, expression_of-False, expression_of-Null, expression_of-Enumerator, expression_of-Now, expression_of-Paren, expression_of-Not, expressions_of, tails_of, tail_of, arguments_of, selector_of, selector_of-Field, selector_of-Index, selector_of-Target, selectors_of, argument_of, argument_of-Positional, argument_of-Input, tail_of-operand}
+use Rattle.st_rules.specs.Expressions.{tail_operators, index_operators, selector_operators, argument_operators}
 use Rattle.check_nodes.specs.Private.Count.{selector_count, argument_count}
 use Rattle.check_nodes.proofs.ViewLaws.{output_is}
-use Rattle.check_nodes.proofs.RoomLaws.{count, nothing_taken, same_count, both_left, one_left, tail_left, first_over, one_over, place_count, ref_count, call_count, chain_count, literal_count, negate_count}
+use Rattle.check_nodes.proofs.RoomLaws.{count, nothing_taken, room_next, room_over, room_ended, tail_first, selector_first, argument_first, same_count, both_left, one_left, tail_left, first_over, one_over, place_count, ref_count, call_count, chain_count, literal_count, negate_count}
 use Rattle.check_nodes.proofs.count.+count.Goals as goal
 
 -- ---- expressions
@@ -100,3 +100,49 @@ argument_left-returns-in-Input t c = same_count _ _ _ _ (ap argument_count (ap a
 pub argument_left-returns-in-Output : goal.argument_left-returns-in-Output
 argument_left-returns-in-Output t c =
     same_count _ _ _ _ (ap argument_count (ap argument_of c.in-Output.is ∙ output_is _ _ _ _) ∙ ap (λ ss. selector_operators (selectors_of ss)) (sym c.as_slice.ensures)) c.selectors_left.ensures
+
+-- ---- lists of them
+
+pub tails_left-loop-tail-preserved : goal.tails_left-loop-tail-preserved
+tails_left-loop-tail-preserved t c =
+    room_next (λ ts. tail_operators (tails_of ts)) c.args.tails.now c.args.room c.loop-tail.left c.loop-tail.tail-index c.tail-item.result (count (tail_of c.tail-item.result).2 + 1) _ c.loop-tail-test.true c.tail-item.is (tail_first (count (tail_of c.tail-item.result).2) (tail_operators (tails_of (drop (c.loop-tail.tail-index + 1) c.args.tails.now)))) c.in_ok-left.ensures c.loop-tail.invariant
+
+pub tails_left-returns-in_err-left : goal.tails_left-returns-in_err-left
+tails_left-returns-in_err-left t c =
+    rw c.from_residual.ensures (room_over (λ ts. tail_operators (tails_of ts)) c.args.tails.now c.args.room c.loop-tail.left c.loop-tail.tail-index c.tail-item.result (count (tail_of c.tail-item.result).2 + 1) c.loop-tail-test.true c.tail-item.is (tail_first (count (tail_of c.tail-item.result).2) (tail_operators (tails_of (drop (c.loop-tail.tail-index + 1) c.args.tails.now)))) c.in_err-left.ensures c.loop-tail.invariant)
+
+pub tails_left-returns : goal.tails_left-returns
+tails_left-returns t c = room_ended (λ ts. tail_operators (tails_of ts)) c.args.tails.now c.args.room c.loop-tail.left c.loop-tail.tail-index refl c.loop-tail-test.false c.loop-tail.invariant
+
+pub indices_left-loop-index-preserved : goal.indices_left-loop-index-preserved
+indices_left-loop-index-preserved t c =
+    room_next (λ es. index_operators (expressions_of es)) c.args.indices.now c.args.room c.loop-index.left c.loop-index.index-index c.index-item.result (count (expression_of c.index-item.result)) _ c.loop-index-test.true c.index-item.is refl c.in_ok-left.ensures c.loop-index.invariant
+
+pub indices_left-returns-in_err-left : goal.indices_left-returns-in_err-left
+indices_left-returns-in_err-left t c =
+    rw c.from_residual.ensures (room_over (λ es. index_operators (expressions_of es)) c.args.indices.now c.args.room c.loop-index.left c.loop-index.index-index c.index-item.result (count (expression_of c.index-item.result)) c.loop-index-test.true c.index-item.is refl c.in_err-left.ensures c.loop-index.invariant)
+
+pub indices_left-returns : goal.indices_left-returns
+indices_left-returns t c = room_ended (λ es. index_operators (expressions_of es)) c.args.indices.now c.args.room c.loop-index.left c.loop-index.index-index refl c.loop-index-test.false c.loop-index.invariant
+
+pub selectors_left-loop-selector-preserved : goal.selectors_left-loop-selector-preserved
+selectors_left-loop-selector-preserved t c =
+    room_next (λ ss. selector_operators (selectors_of ss)) c.args.selectors.now c.args.room c.loop-selector.left c.loop-selector.selector-index c.selector-item.result (selector_count (selector_of c.selector-item.result)) _ c.loop-selector-test.true c.selector-item.is (selector_first (selector_of c.selector-item.result) (selectors_of (drop (c.loop-selector.selector-index + 1) c.args.selectors.now))) c.in_ok-left.ensures c.loop-selector.invariant
+
+pub selectors_left-returns-in_err-left : goal.selectors_left-returns-in_err-left
+selectors_left-returns-in_err-left t c =
+    rw c.from_residual.ensures (room_over (λ ss. selector_operators (selectors_of ss)) c.args.selectors.now c.args.room c.loop-selector.left c.loop-selector.selector-index c.selector-item.result (selector_count (selector_of c.selector-item.result)) c.loop-selector-test.true c.selector-item.is (selector_first (selector_of c.selector-item.result) (selectors_of (drop (c.loop-selector.selector-index + 1) c.args.selectors.now))) c.in_err-left.ensures c.loop-selector.invariant)
+
+pub selectors_left-returns : goal.selectors_left-returns
+selectors_left-returns t c = room_ended (λ ss. selector_operators (selectors_of ss)) c.args.selectors.now c.args.room c.loop-selector.left c.loop-selector.selector-index refl c.loop-selector-test.false c.loop-selector.invariant
+
+pub arguments_left-loop-argument-preserved : goal.arguments_left-loop-argument-preserved
+arguments_left-loop-argument-preserved t c =
+    room_next (λ xs. argument_operators (arguments_of xs)) c.args.arguments.now c.args.room c.loop-argument.left c.loop-argument.argument-index c.argument-item.result (argument_count (argument_of c.argument-item.result)) _ c.loop-argument-test.true c.argument-item.is (argument_first (argument_of c.argument-item.result) (arguments_of (drop (c.loop-argument.argument-index + 1) c.args.arguments.now))) c.in_ok-left.ensures c.loop-argument.invariant
+
+pub arguments_left-returns-in_err-left : goal.arguments_left-returns-in_err-left
+arguments_left-returns-in_err-left t c =
+    rw c.from_residual.ensures (room_over (λ xs. argument_operators (arguments_of xs)) c.args.arguments.now c.args.room c.loop-argument.left c.loop-argument.argument-index c.argument-item.result (argument_count (argument_of c.argument-item.result)) c.loop-argument-test.true c.argument-item.is (argument_first (argument_of c.argument-item.result) (arguments_of (drop (c.loop-argument.argument-index + 1) c.args.arguments.now))) c.in_err-left.ensures c.loop-argument.invariant)
+
+pub arguments_left-returns : goal.arguments_left-returns
+arguments_left-returns t c = room_ended (λ xs. argument_operators (arguments_of xs)) c.args.arguments.now c.args.room c.loop-argument.left c.loop-argument.argument-index refl c.loop-argument-test.false c.loop-argument.invariant
