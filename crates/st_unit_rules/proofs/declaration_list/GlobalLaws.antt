@@ -6,6 +6,7 @@ use Rattle.std.proofs.lemmas.Grind.{flat_map-append}
 use Rattle.st_unit_rules.specs.declared_names.Item.{Item}
 use Rattle.st_unit_rules.specs.declared_names.Section.{Section}
 use Rattle.st_unit_rules.specs.declared_names.Member.{Member}
+use Rattle.st_tree.specs.declared.declaration.Member.TheVariants as member
 use Rattle.st_unit_rules.proofs.declared_names.ListLaws.{drop-end}
 use Rattle.st_unit_rules.specs.declared_names.Variables.{Written, item_written, section_written, sections_written, sections_in}
 use Rattle.st_unit_rules.specs.declared_names.Declarations.{Global, a_global, globals_of_item, globals_of_section}
@@ -58,3 +59,8 @@ configured ws gs rs e = ap (map a_global) e ∙ map-append a_global (names_in_se
 
 pub members_ended : (ws : List WrittenName) (ms : List (Member ℕ)) (i : ℕ) → length ms ≤ i → map global_of ws ++ names_in_sections (sections_in (drop i ms)) ≡ names_in_sections (sections_in ms) → map written_of ws ≡ sections_written (sections_in ms)
 members_ended ws ms i l e = written_by_names ws (sections_in ms) (sym (append-nil (map global_of ws)) ∙ ap (λ xs. map global_of ws ++ names_in_sections (sections_in xs)) (sym (drop-end ms i l)) ∙ e)
+
+-- what a list of members gives, by its first one
+pub member_first : (m : Member ℕ) (ms : List (Member ℕ)) → names_in_sections (sections_in (m ∷ ms)) ≡ names_in_sections (sections_in (m ∷ [])) ++ names_in_sections (sections_in ms)
+member_first (member.Section s) ms = ap (λ xs. xs ++ names_in_sections (sections_in ms)) (sym (append-nil (names_in_section s)))
+member_first (member.Method m) ms = refl

@@ -1,6 +1,6 @@
 //! The declarations of a unit, one by one.
 
-ghost use Rattle.std.specs.Prelude.{◌≡◌, ◌∷◌, ◌++◌, map, flat_map, IfOk, OnOk};
+ghost use Rattle.std.specs.Prelude.{◌≡◌, ◌∷◌, [], ◌++◌, map, flat_map, IfOk, OnOk};
 ghost use Rattle.st_unit_rules.specs.declared_names.Declarations as declarations;
 ghost use Rattle.st_unit_rules.specs.declared_names.Declarations.{a_global, an_entry, declarations_of};
 ghost use Rattle.st_unit_rules.specs.declaration_list.Listed.{declared_as};
@@ -59,6 +59,14 @@ impl<'a> Declared<'a> {
     }
 }
 
+/// Adds one declaration.
+fn add<'a>(list: &mut Vec<Declared<'a>>, one: Declared<'a>) -> Result<(), NoMemory>
+    ensures { OnOk result (map declared_as list.new.items ≡ map declared_as list.old.items ++ (declared_as one.entry ∷ [])) }
+{
+    list.push(one)?;
+    Ok(())
+}
+
 fn add_entries<'a>(
     list: &mut Vec<Declared<'a>>,
     entries: &'a [TypeDecl<u32>],
@@ -66,7 +74,7 @@ fn add_entries<'a>(
     ensures { OnOk result (map declared_as list.new.items ≡ map declared_as list.old.items ++ map an_entry entries.now) }
 {
     for entry in entries {
-        list.push(Declared::Entry(entry))?;
+        add(list, Declared::Entry(entry))?;
     }
     Ok(())
 }
@@ -75,7 +83,7 @@ fn add_globals<'a>(list: &mut Vec<Declared<'a>>, names: &[WrittenName<'a>]) -> R
     ensures { OnOk result (map declared_as list.new.items ≡ map declared_as list.old.items ++ map a_global (map global_of names.now)) }
 {
     for name in names {
-        list.push(Declared::Global(*name))?;
+        add(list, Declared::Global(*name))?;
     }
     Ok(())
 }
@@ -116,7 +124,7 @@ fn add_configuration<'a>(
     ensures { OnOk result (map declared_as list.new.items ≡ map declared_as list.old.items ++ (declarations.a_configuration configuration.now ∷ flat_map declarations.globals_of_section (declarations.configuration_globals configuration.now))) }
 {
     let names = configuration_names(alloc, configuration)?;
-    list.push(Declared::Configuration(configuration))?;
+    add(list, Declared::Configuration(configuration))?;
     add_globals(list, &names)
 }
 
@@ -128,19 +136,17 @@ fn add_declaration<'a>(
     ensures { OnOk result (map declared_as list.new.items ≡ map declared_as list.old.items ++ declarations_of decl.now) }
 {
     match decl {
-        Decl::Types(_, entries) => add_entries(list, entries.as_slice())?,
-        Decl::Globals(section) => add_section_globals(alloc, list, section)?,
-        Decl::Interface(interface) => list.push(Declared::Interface(interface))?,
-        Decl::Class(class) => list.push(Declared::Class(class))?,
-        Decl::Function(function) => list.push(Declared::Function(function))?,
-        Decl::Program(program) => list.push(Declared::Program(program))?,
-        Decl::Configuration(configuration) => add_configuration(alloc, list, configuration)?,
+        Decl::Types(_, entries) => add_entries(list, entries.as_slice()),
+        Decl::Globals(section) => add_section_globals(alloc, list, section),
+        Decl::Interface(interface) => add(list, Declared::Interface(interface)),
+        Decl::Class(class) => add(list, Declared::Class(class)),
+        Decl::Function(function) => add(list, Declared::Function(function)),
+        Decl::Program(program) => add(list, Declared::Program(program)),
+        Decl::Configuration(configuration) => add_configuration(alloc, list, configuration),
     }
-    Ok(())
 }
 
 /// The declarations of a unit, one by one in the order of the text.
-#[tactic(auto, unfolding(crate::specs::declared_names::Declarations::declarations))]
 pub fn list_declarations<'a>(
     alloc: Global,
     decls: &'a [Decl<u32>],

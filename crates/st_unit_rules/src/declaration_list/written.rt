@@ -152,7 +152,6 @@ fn add_member<'a>(list: &mut Vec<WrittenName<'a>>, member: &'a Member<u32>) -> R
 }
 
 /// The names that the sections among a class's members declare.
-#[tactic(auto, using(crate::proofs::declaration_list::GlobalLaws::members_ended))]
 pub fn written_members<'a>(
     alloc: Global,
     members: &'a [Member<u32>],
