@@ -64,10 +64,6 @@ module _ (p : Program) where
   pub none_in_target : (old : List Use) (a : Note) → old ≡ old ++ selector_uses p (selector_of (selection.Target a))
   none_in_target old a = nothing old (selector_uses p (selector_of (selection.Target a))) (ap (selector_uses p) (selector_of-Target a))
 
-pub ruleset leaf_uses = (none_in_int, none_in_typed, none_in_time, none_in_true, none_in_false, none_in_null, none_in_enumerator, none_in_now)
-
-pub ruleset selector_leaves = (none_in_field, none_in_target)
-
 -- ---- what is bound is a place
 
 free : (old : List Use) (b : Bool) (e : Expr Note) (x : Expression Note) → expression_of e ≡ x → ((c : Bool) → bound_uses c x ≡ []) → old ≡ old ++ bound_uses b (expression_of e)

@@ -1,6 +1,7 @@
 -- What statements use, by their forms.
-use Rattle.std.proofs.Common.{◌≡◌, ℕ, List, [], ◌++◌, Option, sym, ap, ◌∙◌, append_assoc, append-nil}
+use Rattle.std.proofs.Common.{◌≡◌, ℕ, List, [], ◌∷◌, ◌++◌, Option, Result, OnOk, sym, ap, ◌∙◌, subst, append_assoc, append-nil}
 use Rattle.std.specs.Prelude.{option_map}
+use Rattle.st_tree.specs.declared.expression.Argument.{Argument as CodeArgument}
 use Rattle.st_tree.specs.declared.expression.Expr.{Expr}
 use Rattle.st_tree.specs.declared.expression.Place.{Place as CodePlace}
 use Rattle.st_tree.specs.declared.expression.Selector.{Selector as CodeSelector}
@@ -11,11 +12,11 @@ use Rattle.st_tree.specs.declared.statement.Otherwise.{Otherwise as CodeOtherwis
 use Rattle.st_tree.specs.declared.statement.Otherwise.TheVariants as otherwise
 use Rattle.st_tree.specs.declared.statement.Stmt.{Stmt}
 use Rattle.st_tree.specs.declared.statement.Stmt.TheVariants as code
-use Rattle.st_tree.specs.Expression.{Expression, expression_of, place_of, selectors_of}
-use Rattle.st_tree.specs.Statement.{Statement, statement_of, statement_of-Empty, statement_of-Exit, statement_of-Continue, statement_of-Return, statement_of-If, statement_of-Case, statement_of-For, statement_of-While, statement_of-Repeat, statements_of, branches_of, cases_of, otherwise_of, otherwise_of-Nothing, branch_of, branch_of-is}
+use Rattle.st_tree.specs.Expression.{Expression, expression_of, arguments_of, place_of, selectors_of}
+use Rattle.st_tree.specs.Statement.{Statement, statement_of, statement_of-Empty, statement_of-Exit, statement_of-Continue, statement_of-Return, statement_of-If, statement_of-Case, statement_of-For, statement_of-While, statement_of-Repeat, statement_of-Assign, statement_of-Attempt, statement_of-Call, Statements, statements_of, branches_of, cases_of, otherwise_of, otherwise_of-Nothing, otherwise_of-Else, branch_of, branch_of-is, case_branch_of, case_branch_of-body}
 use Rattle.st_values.specs.Initial.{note_of}
 use Rattle.st_values.specs.Program.{Program}
-use Rattle.st_meaning.specs.st_frame.Use.{Use, owner_uses, changed, named_region, name_uses, expression_uses, place_uses, tried, step_uses, statement_uses, body_uses, branch_uses, case_uses, otherwise_uses}
+use Rattle.st_meaning.specs.st_frame.Use.{Use, owner_uses, changed, named_region, name_uses, expression_uses, place_uses, call_uses, tried, step_uses, statement_uses, body_uses, branch_uses, case_uses, otherwise_uses}
 use Rattle.body_uses.specs.Private.Statements.{assigned_uses}
 use Rattle.body_uses.proofs.UseLaws.{two, owner_at}
 
@@ -55,6 +56,27 @@ module _ (p : Program) where
 
   pub no_else : (old : List Use) (o : CodeOtherwise Note) → o ≡ otherwise.Nothing → old ≡ old ++ otherwise_uses p (otherwise_of o)
   no_else old o e = nothing old ∙ ap (λ x. old ++ otherwise_uses p x) (sym (ap otherwise_of e ∙ otherwise_of-Nothing))
+
+  pub assign_goes : (old new : List Use) (s : Stmt Note) (l : ℕ) (a : Note) (q : CodePlace Note) (v : Expr Note) → s ≡ code.Assign l a q v → new ≡ old ++ assigned_uses p (place_of q).0 (place_of q).1 (expression_of v) → new ≡ old ++ statement_uses p (statement_of s)
+  assign_goes old new s l a q v e k = same_statement old new s _ (ap statement_of e ∙ statement_of-Assign l a q v) k
+
+  pub tried_goes : (old new : List Use) (s : Stmt Note) (l : ℕ) (a : Note) (q : CodePlace Note) (v : Expr Note) → s ≡ code.Attempt l a q v → new ≡ old ++ (tried p (note_of (expression_of v)).kind ++ assigned_uses p (place_of q).0 (place_of q).1 (expression_of v))
+      → new ≡ old ++ statement_uses p (statement_of s)
+  tried_goes old new s l a q v e k = same_statement old new s _ (ap statement_of e ∙ statement_of-Attempt l a q v) k
+
+  pub called_goes : (old new : List Use) (s : Stmt Note) (l : ℕ) (a : Note) (q : CodePlace Note) (xs ys : List (CodeArgument Note)) → s ≡ code.Call l a q xs → ys ≡ xs → new ≡ old ++ call_uses p (place_of q).0 (place_of q).1 (arguments_of ys)
+      → new ≡ old ++ statement_uses p (statement_of s)
+  called_goes old new s l a q xs ys e h k = same_statement old new s _ (ap statement_of e ∙ statement_of-Call l a q xs) (k ∙ ap (λ zs. old ++ call_uses p (place_of q).0 (place_of q).1 (arguments_of zs)) h)
+
+  pub case_branch_goes : {T E : Type 0} (r : Result T E) (old new : List Use) (x : CodeCase Note) (ss : List (Stmt Note)) → ss ≡ x.body → OnOk r (new ≡ old ++ body_uses p (statements_of ss)) → OnOk r (new ≡ old ++ body_uses p (case_branch_of x).1)
+  case_branch_goes r old new x ss h k = subst (λ (y : Statements Note). OnOk r (new ≡ old ++ body_uses p y)) (ap statements_of h ∙ sym (case_branch_of-body x)) k
+
+  pub else_goes : (old new : List Use) (o : CodeOtherwise Note) (ss xs : List (Stmt Note)) → o ≡ otherwise.Else ss → xs ≡ ss → new ≡ old ++ body_uses p (statements_of xs) → new ≡ old ++ otherwise_uses p (otherwise_of o)
+  else_goes old new o ss xs e h k = k ∙ ap (λ ys. old ++ body_uses p (statements_of ys)) h ∙ ap (λ y. old ++ otherwise_uses p y) (sym (ap otherwise_of e ∙ otherwise_of-Else ss))
+
+  -- a branch before those that are left
+  pub branches_first : (x : Branch Note) (xs : List (Branch Note)) → branch_uses p (branches_of (x ∷ xs)) ≡ (expression_uses p (branch_of x).0 ++ body_uses p (branch_of x).1) ++ branch_uses p (branches_of xs)
+  branches_first x xs = sym (append_assoc (expression_uses p (branch_of x).0) (body_uses p (branch_of x).1) (branch_uses p (branches_of xs)))
 
   pub if_goes : (s : Stmt Note) (l : ℕ) (bs xs : List (Branch Note)) (o : CodeOtherwise Note) (old mid new : List Use) → s ≡ code.If l bs o → xs ≡ bs → mid ≡ old ++ branch_uses p (branches_of xs) → new ≡ mid ++ otherwise_uses p (otherwise_of o)
       → new ≡ old ++ statement_uses p (statement_of s)

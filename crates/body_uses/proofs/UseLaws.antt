@@ -1,5 +1,5 @@
 -- What is used in two or more steps.
-use Rattle.std.proofs.Common.{◌≡◌, ℕ, Bool, List, ◌++◌, Option, sym, ap, ◌∙◌, append_assoc}
+use Rattle.std.proofs.Common.{◌≡◌, ℕ, Bool, List, ◌++◌, Option, Result, OnOk, sym, ap, ◌∙◌, subst, append_assoc}
 use Rattle.st_tree.specs.declared.expression.Argument.{Argument as CodeArgument}
 use Rattle.st_tree.specs.declared.expression.Argument.TheVariants as argument
 use Rattle.st_tree.specs.declared.expression.Expr.{Expr}
@@ -9,11 +9,11 @@ use Rattle.st_tree.specs.declared.expression.Selector.{Selector as CodeSelector}
 use Rattle.st_tree.specs.declared.expression.Selector.TheVariants as selection
 use Rattle.st_tree.specs.declared.expression.Tail.{Tail}
 use Rattle.st_tree.specs.declared.program.Note.{Note}
-use Rattle.st_tree.specs.Expression.{expression_of, expression_of-Call, expression_of-Chain, argument_of, argument_of-Positional, argument_of-Input, argument_of-Output, Arguments, arguments_of, tails_of, selector_of, selectors_of, place_of, place_of-is}
+use Rattle.st_tree.specs.Expression.{Expression, expression_of, expression_of-Call, expression_of-Chain, expression_of-Place, expression_of-Ref, expression_of-Paren, expression_of-Not, expression_of-Negate, expressions_of, selector_of-Index, tail_of, tail_of-operand, argument_of, argument_of-Positional, argument_of-Input, argument_of-Output, Arguments, arguments_of, tails_of, selector_of, selectors_of, place_of, place_of-is}
 use Rattle.st_values.specs.Program.{Parameter, Program}
 use Rattle.st_meaning.specs.Place.{root_note}
 use Rattle.st_meaning.specs.Call.{parameter_named, next_parameter}
-use Rattle.st_meaning.specs.st_frame.Use.{Called, Use, owner_uses, root_uses, called_of, call_use, called_parameters, is_bound, bound_uses, along_uses, selector_uses, expression_uses, tail_uses, argument_uses, place_uses, call_uses}
+use Rattle.st_meaning.specs.st_frame.Use.{Called, Use, owner_uses, root_uses, called_of, call_use, called_parameters, is_bound, bound_uses, along_uses, selector_uses, index_uses, expression_uses, tail_uses, argument_uses, place_uses, call_uses}
 use Rattle.body_uses.specs.Private.Uses.{one_argument}
 use Rattle.body_uses.proofs.CallLaws.{none_in_field, none_in_target}
 
@@ -88,3 +88,32 @@ module _ (p : Program) where
 
   pub target_goes : (old : List Use) (x : CodeSelector Note) (a : Note) → x ≡ selection.Target a → old ≡ old ++ selector_uses p (selector_of x)
   target_goes old x a e = none_in_target p old a ∙ ap (λ y. old ++ selector_uses p (selector_of y)) (sym e)
+
+  -- ---- one part
+
+  one_goes : (old new : List Use) (e : Expr Note) (x : Expression Note) → expression_of e ≡ x → new ≡ old ++ expression_uses p x → new ≡ old ++ expression_uses p (expression_of e)
+  one_goes old new e x h k = k ∙ ap (λ y. old ++ expression_uses p y) (sym h)
+
+  pub leaf_goes : (old : List Use) (e x : Expr Note) → e ≡ x → old ≡ old ++ expression_uses p (expression_of x) → old ≡ old ++ expression_uses p (expression_of e)
+  leaf_goes old e x h k = k ∙ ap (λ y. old ++ expression_uses p (expression_of y)) (sym h)
+
+  pub place_node_goes : (old new : List Use) (e : Expr Note) (n : Note) (q : CodePlace Note) → e ≡ code.Place n q → new ≡ old ++ place_uses p (place_of q).0 (place_of q).1 → new ≡ old ++ expression_uses p (expression_of e)
+  place_node_goes old new e n q i k = one_goes old new e _ (ap expression_of i ∙ expression_of-Place n q) k
+
+  pub ref_goes : (old new : List Use) (e : Expr Note) (n : Note) (q : CodePlace Note) → e ≡ code.Ref n q → new ≡ old ++ place_uses p (place_of q).0 (place_of q).1 → new ≡ old ++ expression_uses p (expression_of e)
+  ref_goes old new e n q i k = one_goes old new e _ (ap expression_of i ∙ expression_of-Ref n q) k
+
+  pub paren_goes : (old new : List Use) (e : Expr Note) (n : Note) (inner x : Expr Note) → e ≡ code.Paren n inner → x ≡ inner → new ≡ old ++ expression_uses p (expression_of x) → new ≡ old ++ expression_uses p (expression_of e)
+  paren_goes old new e n inner x i g k = one_goes old new e _ (ap expression_of i ∙ expression_of-Paren n inner) (k ∙ ap (λ y. old ++ expression_uses p (expression_of y)) g)
+
+  pub not_goes : (old new : List Use) (e : Expr Note) (n : Note) (inner x : Expr Note) → e ≡ code.Not n inner → x ≡ inner → new ≡ old ++ expression_uses p (expression_of x) → new ≡ old ++ expression_uses p (expression_of e)
+  not_goes old new e n inner x i g k = one_goes old new e _ (ap expression_of i ∙ expression_of-Not n inner) (k ∙ ap (λ y. old ++ expression_uses p (expression_of y)) g)
+
+  pub negate_goes : (old new : List Use) (e : Expr Note) (n : Note) (inner x : Expr Note) → e ≡ code.Negate n inner → x ≡ inner → new ≡ old ++ expression_uses p (expression_of x) → new ≡ old ++ expression_uses p (expression_of e)
+  negate_goes old new e n inner x i g k = one_goes old new e _ (ap expression_of i ∙ expression_of-Negate n inner) (k ∙ ap (λ y. old ++ expression_uses p (expression_of y)) g)
+
+  pub index_goes : (old new : List Use) (x : CodeSelector Note) (a : Note) (es fs : List (Expr Note)) → x ≡ selection.Index a es → fs ≡ es → new ≡ old ++ index_uses p (expressions_of fs) → new ≡ old ++ selector_uses p (selector_of x)
+  index_goes old new x a es fs i g k = k ∙ ap (λ ys. old ++ index_uses p (expressions_of ys)) g ∙ ap (λ y. old ++ selector_uses p y) (sym (ap selector_of i ∙ selector_of-Index a es))
+
+  pub tail_goes : {T E : Type 0} (r : Result T E) (old new : List Use) (x : Tail Note) → OnOk r (new ≡ old ++ expression_uses p (expression_of x.operand)) → OnOk r (new ≡ old ++ expression_uses p (tail_of x).2)
+  tail_goes r old new x k = subst (λ (y : Expression Note). OnOk r (new ≡ old ++ expression_uses p y)) (sym (tail_of-operand x)) k

@@ -21,7 +21,6 @@ use st_types::StType;
 
 /// Adds what an expression uses.
 #[cycle(uses)]
-#[tactic(auto, using(st_tree::specs::Expression::expression_views, crate::proofs::CallLaws::leaf_uses))]
 pub fn add_expression<'p>(
     e: &'p Expr<Note>,
     uses: &mut Vec<Use<'p>>,
@@ -61,7 +60,6 @@ pub fn add_expression<'p>(
 
 /// Adds what a place names and follows, and what its indices use.
 #[cycle(uses)]
-#[tactic(auto, using(st_tree::specs::Expression::expression_views))]
 pub fn add_place<'p>(
     place: &'p Place<Note>,
     uses: &mut Vec<Use<'p>>,
@@ -101,7 +99,6 @@ fn add_along<'p>(
 }
 
 #[cycle(uses)]
-#[tactic(auto, using(st_tree::specs::Expression::expression_views, crate::proofs::CallLaws::selector_leaves))]
 fn add_selector<'p>(
     selector: &'p Selector<Note>,
     uses: &mut Vec<Use<'p>>,
@@ -134,7 +131,6 @@ fn add_indices<'p>(
 }
 
 #[cycle(uses)]
-#[tactic(auto, using(st_tree::specs::Expression::expression_views))]
 fn add_tail<'p>(
     tail: &'p Tail<Note>,
     uses: &mut Vec<Use<'p>>,
@@ -226,7 +222,6 @@ fn left_behind<'a>(left: &'a [Parameter], argument: &Argument<Note>) -> &'a [Par
 }
 
 #[cycle(uses)]
-#[tactic(auto, using(st_tree::specs::Expression::expression_views))]
 fn add_argument<'p>(
     argument: &'p Argument<Note>,
     parameters: &[Parameter],

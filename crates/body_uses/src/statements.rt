@@ -37,7 +37,6 @@ pub fn body_uses<'p>(
 }
 
 #[cycle(statements)]
-#[tactic(auto, using(st_tree::specs::Statement::statement_views))]
 fn add_statement<'p>(
     statement: &'p Stmt<Note>,
     uses: &mut Vec<Use<'p>>,
@@ -173,7 +172,6 @@ fn add_body<'p>(
 }
 
 #[cycle(statements)]
-#[tactic(auto, using(st_tree::specs::Statement::statement_views))]
 fn add_branch<'p>(
     branch: &'p Branch<Note>,
     uses: &mut Vec<Use<'p>>,
@@ -203,7 +201,6 @@ fn add_branches<'p>(
 }
 
 #[cycle(statements)]
-#[tactic(auto, using(st_tree::specs::Statement::statement_views))]
 fn add_case<'p>(
     case: &'p Case<Note>,
     uses: &mut Vec<Use<'p>>,
@@ -231,7 +228,6 @@ fn add_cases<'p>(
 }
 
 #[cycle(statements)]
-#[tactic(auto, using(st_tree::specs::Statement::statement_views))]
 fn add_otherwise<'p>(
     otherwise: &'p Otherwise<Note>,
     uses: &mut Vec<Use<'p>>,

@@ -1,5 +1,5 @@
 -- What constants of a class or a routine need, and the marks of those that need themselves.
-use Rattle.std.proofs.Common.{◌≡◌, ℕ, suc, ◌+◌, ◌<◌, ◌≤◌, Bool, true, false, List, [], ◌∷◌, ◌++◌, Option, Some, None, map, length, get_or, drop, refl, sym, ap, ◌∙◌, arith, add-one, subst}
+use Rattle.std.proofs.Common.{◌≡◌, ℕ, suc, ◌+◌, ◌-◌, ◌<◌, ◌≤◌, Bool, true, false, List, [], ◌∷◌, ◌++◌, Option, Some, None, map, length, get_or, drop, refl, sym, ap, ◌∙◌, arith, add-one, subst}
 use Rattle.std.specs.Prelude.{◌&&◌, flat_map, filter_map, slice_get, cond, option_map, if◌then◌else◌}
 use Rattle.std.proofs.lemmas.List.{length-map}
 use Rattle.plc_text.specs.declared.code.Code.{Code}
@@ -61,6 +61,14 @@ table_next old new names i j x k l e p t = record {
       ∙ put_found (same x.name.now.text name) (inner_constant (written_of x).constant i) _ _ (t.finds name ∙ ap (λ m. inner_from name m (map written_of (drop m names))) k ∙ ap (λ m. inner_from name m (map written_of (drop (i + 1) names))) (add-one i))
       ∙ ap (λ xs. inner_from name i (map written_of xs)) (sym (drop-at names i x l e));
 }
+
+-- the same by what the code has: the key that it copied, and the place that it made
+pub table_more : (old new : InnerTable) (names : List WrittenName) (j : ℕ) (x : WrittenName) (key : List ℕ) (b : Bool) (place : Option ℕ) → 0 < j → x ≡ get_or names (j - 1) x → key ≡ x.name.now.text → b ≡ (written_of x).constant
+    → place ≡ inner_constant b (j - 1) → IsPut old new key place → InnerTo old names j → InnerTo new names (j - 1)
+table_more old new names j x key b place l e k h g p t =
+    let w = t.within in
+    table_next old new names (j - 1) j x (omega arith) (omega arith) e
+    (subst (λ (name : List ℕ). IsPut old new name (inner_constant (written_of x).constant (j - 1))) k (subst (λ (o : Option ℕ). IsPut old new key o) (g ∙ ap (λ c. inner_constant c (j - 1)) h) p)) t
 
 -- ---- places
 
@@ -192,3 +200,7 @@ module _ (marks : List Bool) (names : List WrittenName) where
 
   pub marked_ended : (found : Option (Code × ℕ)) (i : ℕ) → length names ≤ i → MarkedTo marks names found i → found ≡ least (marked_faults marks (map written_of names))
   marked_ended found i l t = sym (earlier-none found) ∙ ap (λ ys. earlier found (least (each_numbered (marked_fault marks) i (map written_of ys)))) (sym (drop-end names i l)) ∙ t.rest
+
+-- all of the list was put
+pub table_ended : (table : InnerTable) (names : List WrittenName) (i : ℕ) → i ≤ 0 → InnerTo table names i → IsInnerTable table (map written_of names)
+table_ended table names i l t = let z : i ≡ 0 = omega arith in record { finds = λ name. t.finds name ∙ ap (λ m. inner_from name m (map written_of (drop m names))) z }

@@ -22,7 +22,6 @@ use std::alloc::Global;
 use std::marker::Model;
 
 /// Which declarations contain themselves.
-#[tactic(auto, using(crate::proofs::GraphLaws::contained_edges_within))]
 fn containing(alloc: Global, known: &Known<'_>, edges: &[Edge]) -> Result<Vec<bool>, NoMemory>
     requires { edges.now ≡ edges_from 0 (map (contained_of (declared known.now)) known.now.list.now) }
     ensures { IfOk result (λ marks. (i : ℕ) → marked marks.items i ≡ cycles.contains_itself (declared known.now) i) }
@@ -32,7 +31,6 @@ fn containing(alloc: Global, known: &Known<'_>, edges: &[Edge]) -> Result<Vec<bo
 }
 
 /// Which declarations contain themselves or lead to one that does.
-#[tactic(auto, using(crate::proofs::GraphLaws::contained_edges_within))]
 fn leading(alloc: Global, known: &Known<'_>, edges: &[Edge]) -> Result<Vec<bool>, NoMemory>
     requires { edges.now ≡ edges_from 0 (map (contained_of (declared known.now)) known.now.list.now) }
     ensures { IfOk result (λ marks. (i : ℕ) → marked marks.items i ≡ cycles.leads_to_cycle (declared known.now) i) }
@@ -42,7 +40,6 @@ fn leading(alloc: Global, known: &Known<'_>, edges: &[Edge]) -> Result<Vec<bool>
 }
 
 /// Which aliases and constants need themselves.
-#[tactic(auto, using(crate::proofs::GraphLaws::needs_within))]
 fn needing(alloc: Global, known: &Known<'_>, decls: &[Decl<u32>]) -> Result<Vec<bool>, NoMemory>
     requires tables { AreTables known.now }
     requires list { declared known.now ≡ declarations decls.now }

@@ -158,7 +158,6 @@ fn first_flags(alloc: Global, names: &[WrittenName<'_>]) -> Result<Vec<bool>, No
 }
 
 /// Which constants need themselves.
-#[tactic(auto, using(crate::proofs::InnerLaws::inner_within))]
 fn on_cycles(alloc: Global, names: &[WrittenName<'_>]) -> Result<Vec<bool>, NoMemory>
     ensures { IfOk result (λ marks. (sections : List (ASection ℕ)) → map global_of names.now ≡ names_in_sections sections → OnCycles marks.items (map written_of names.now)) }
 {

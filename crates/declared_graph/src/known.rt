@@ -1,6 +1,6 @@
 //! Where the first declaration of each name stands.
 
-ghost use Rattle.std.specs.Prelude.{◌≡◌, map, IfOk, slice_get};
+ghost use Rattle.std.specs.Prelude.{◌≡◌, map, Some, IfOk, slice_get};
 ghost use Rattle.st_unit_rules.specs.declared_names.Declarations.{is_class};
 ghost use Rattle.st_unit_rules.specs.Cycles as cycles;
 ghost use Rattle.st_unit_rules.specs.declaration_list.Listed.{declared_as};
@@ -110,16 +110,24 @@ fn is_constant(declared: &Declared<'_>) -> bool
     }
 }
 
-/// The place, if a constant stands there.
-#[tactic(auto, using(crate::proofs::PlaceLaws::constant_cases))]
-fn constant_at(list: &[Declared<'_>], place: usize) -> Option<usize>
-    ensures { result ≡ constant_if place (slice_get (map declared_as list.now) place) }
+/// The place, if the declaration is a constant.
+fn if_constant(declared: &Declared<'_>, place: usize) -> Option<usize>
+    ensures { result ≡ constant_if place (Some (declared_as declared.now)) }
 {
-    let declared = list.get(place)?;
     if is_constant(declared) {
         Some(place)
     } else {
         None
+    }
+}
+
+/// The place, if a constant stands there.
+fn constant_at(list: &[Declared<'_>], place: usize) -> Option<usize>
+    ensures { result ≡ constant_if place (slice_get (map declared_as list.now) place) }
+{
+    match list.get(place) {
+        Some(declared) => if_constant(declared, place),
+        None => None,
     }
 }
 

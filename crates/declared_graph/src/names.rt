@@ -86,7 +86,6 @@ fn add_selectors<'a>(
 }
 
 #[cycle(names)]
-#[tactic(auto, using(st_tree::specs::Expression::expression_views, crate::proofs::NameLaws::no_index))]
 fn add_selector<'a>(list: &mut Vec<Named<'a>>, selector: &'a Selector<u32>) -> Result<(), NoMemory>
     ensures { OnOk result (all_named list.new.items ≡ all_named list.old.items ++ cycles.named_in_selector (selector_of selector.now)) }
 {
@@ -110,7 +109,6 @@ fn add_indices<'a>(list: &mut Vec<Named<'a>>, indices: &'a [Expr<u32>]) -> Resul
 
 /// Adds what an expression names.
 #[cycle(names)]
-#[tactic(auto, using(st_tree::specs::Expression::expression_views, crate::proofs::NameLaws::leaf_names))]
 pub fn add_expression<'a>(list: &mut Vec<Named<'a>>, e: &'a Expr<u32>) -> Result<(), NoMemory>
     ensures { OnOk result (all_named list.new.items ≡ all_named list.old.items ++ cycles.named_in (expression_of e.now)) }
 {
@@ -141,7 +139,6 @@ pub fn add_expression<'a>(list: &mut Vec<Named<'a>>, e: &'a Expr<u32>) -> Result
 }
 
 #[cycle(names)]
-#[tactic(auto, using(st_tree::specs::Expression::expression_views))]
 fn add_tail<'a>(list: &mut Vec<Named<'a>>, tail: &'a Tail<u32>) -> Result<(), NoMemory>
     ensures { OnOk result (all_named list.new.items ≡ all_named list.old.items ++ cycles.named_in (tail_of tail.now).2) }
 {
@@ -159,7 +156,6 @@ fn add_tails<'a>(list: &mut Vec<Named<'a>>, tails: &'a [Tail<u32>]) -> Result<()
 }
 
 #[cycle(names)]
-#[tactic(auto, using(st_tree::specs::Expression::expression_views))]
 fn add_argument<'a>(list: &mut Vec<Named<'a>>, argument: &'a Argument<u32>) -> Result<(), NoMemory>
     ensures { OnOk result (all_named list.new.items ≡ all_named list.old.items ++ cycles.named_in_argument (argument_of argument.now)) }
 {

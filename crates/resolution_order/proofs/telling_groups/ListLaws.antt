@@ -1,5 +1,5 @@
 -- Groups are listed, one after the other.
-use Rattle.std.proofs.Common.{◌≡◌, ℕ, suc, ◌+◌, ◌<◌, ◌≤◌, List, [], ◌∷◌, ◌++◌, map, drop, length, get_or, refl, sym, ap, ◌∙◌}
+use Rattle.std.proofs.Common.{◌≡◌, ℕ, suc, ◌+◌, ◌<◌, ◌≤◌, List, [], ◌∷◌, ◌++◌, map, drop, length, get_or, Result, Ok, Err, OnOk, refl, sym, ap, ◌∙◌}
 use Rattle.std.proofs.lemmas.List.{append_assoc, append-nil}
 use Rattle.st_tree.specs.declared.declaration.Item.{Item}
 use Rattle.st_tree.specs.declared.declaration.Section.{Section}
@@ -35,8 +35,10 @@ members_next names c old now more index after i name l e f g m = record {
 pub members_ended : (names : List WrittenName) (c : ℕ) (old now : List Group) (index i : ℕ) → length names ≤ i → MembersTo names c old now index i → now ≡ old ++ groups_named (members_of c) 0 (map global_of names)
 members_ended names c old now index i l m = sym (append-nil now) ∙ ap (λ ns. now ++ groups_named (members_of c) index (map global_of ns)) (sym (drop-end names i l)) ∙ m.rest
 
-pub class_added : (old mid new : List Group) (t c : ℕ) (ws xs : List Global) → mid ≡ old ++ one_class t c ∷ [] → new ≡ mid ++ groups_named (members_of c) 0 ws → ws ≡ xs → new ≡ old ++ (one_class t c ∷ groups_named (members_of c) 0 xs)
-class_added old mid new t c ws xs h g e = g ∙ ap (λ ys. ys ++ groups_named (members_of c) 0 ws) h ∙ append_assoc old (one_class t c ∷ []) (groups_named (members_of c) 0 ws) ∙ ap (λ zs. old ++ (one_class t c ∷ groups_named (members_of c) 0 zs)) e
+pub class_added : {T E : Type 0} (r : Result T E) (old mid new : List Group) (t c : ℕ) (ws xs : List Global) → mid ≡ old ++ one_class t c ∷ [] → OnOk r (new ≡ mid ++ groups_named (members_of c) 0 ws) → ws ≡ xs
+    → OnOk r (new ≡ old ++ (one_class t c ∷ groups_named (members_of c) 0 xs))
+class_added (Ok x) old mid new t c ws xs h g e = g ∙ ap (λ ys. ys ++ groups_named (members_of c) 0 ws) h ∙ append_assoc old (one_class t c ∷ []) (groups_named (members_of c) 0 ws) ∙ ap (λ zs. old ++ (one_class t c ∷ groups_named (members_of c) 0 zs)) e
+class_added (Err x) old mid new t c ws xs h g e = g
 
 -- ---- declarations
 

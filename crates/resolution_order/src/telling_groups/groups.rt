@@ -38,6 +38,14 @@ struct Next {
     globals: u32,
 }
 
+/// Adds one group.
+fn add<'a>(list: &mut Vec<Group<'a>>, one: Group<'a>) -> Result<(), NoMemory>
+    ensures { OnOk result (map group_of list.new.items ≡ map group_of list.old.items ++ (group_of one.entry ∷ [])) }
+{
+    list.push(one)?;
+    Ok(())
+}
+
 /// Adds the constants of an item of a class, where this is the first name of one.
 fn add_member<'a>(
     list: &mut Vec<Group<'a>>,
@@ -48,7 +56,7 @@ fn add_member<'a>(
     ensures { OnOk result (map group_of list.new.items ≡ map group_of list.old.items ++ listed.group_at (members_of class) index (global_of name.now)) }
 {
     if name.first && name.is_constant() {
-        list.push(Group::Members(class, index, *name))?;
+        add(list, Group::Members(class, index, *name))?;
     }
     Ok(())
 }
@@ -70,7 +78,6 @@ fn add_members<'a>(
 }
 
 /// Adds a class and its constants.
-#[tactic(auto, using(crate::proofs::telling_groups::ListLaws::class_added))]
 fn add_class<'a>(
     alloc: Global,
     list: &mut Vec<Group<'a>>,
@@ -81,9 +88,8 @@ fn add_class<'a>(
     ensures { OnOk result (map group_of list.new.items ≡ map group_of list.old.items ++ (one_class types class ∷ listed.groups_named (members_of class) 0 (names_in_sections (sections_in decl.now.members)))) }
 {
     let names = written_members(alloc, decl.members.as_slice())?;
-    list.push(Group::Class(types, class, decl))?;
-    add_members(list, class, &names)?;
-    Ok(())
+    add(list, Group::Class(types, class, decl))?;
+    add_members(list, class, &names)
 }
 
 /// Adds the constants of an item, where this is the first name of one.
@@ -95,7 +101,7 @@ fn add_global<'a>(
     ensures { OnOk result (map group_of list.new.items ≡ map group_of list.old.items ++ listed.group_at globals_of number (global_of name.now)) }
 {
     if name.first && name.is_constant() {
-        list.push(Group::Globals(number, *name))?;
+        add(list, Group::Globals(number, *name))?;
     }
     Ok(())
 }
@@ -110,17 +116,17 @@ fn add_groups<'a>(
     ensures { OnOk result (map group_of list.new.items ≡ map group_of list.old.items ++ listed.groups_of (listed.numbers_of next) (declared_as declared.now)) }
 {
     match declared {
-        Declared::Entry(entry) => list.push(Group::Entry(next.types, next.entries, *entry))?,
-        Declared::Interface(interface) => {
-            list.push(Group::Interface(next.types, next.interfaces, *interface))?
-        }
-        Declared::Class(class) => add_class(alloc, list, next.types, next.classes, *class)?,
-        Declared::Global(name) => add_global(list, next.globals, name)?,
-        Declared::Function(_) => {}
-        Declared::Program(_) => {}
-        Declared::Configuration(_) => {}
+        Declared::Entry(entry) => add(list, Group::Entry(next.types, next.entries, *entry)),
+        Declared::Interface(interface) => add(
+            list,
+            Group::Interface(next.types, next.interfaces, *interface),
+        ),
+        Declared::Class(class) => add_class(alloc, list, next.types, next.classes, *class),
+        Declared::Global(name) => add_global(list, next.globals, name),
+        Declared::Function(_) => Ok(()),
+        Declared::Program(_) => Ok(()),
+        Declared::Configuration(_) => Ok(()),
     }
-    Ok(())
 }
 
 /// The numbers behind a declaration.

@@ -1,10 +1,12 @@
-use Rattle.std.proofs.Common.{◌++◌, ap, ◌∙◌}
-use Rattle.st_tree.specs.Expression.{expression_of, arguments_of, tails_of}
+use Rattle.std.proofs.Common.{◌++◌, refl, ap, ◌∙◌}
+use Rattle.st_rules.proofs.ListLaws.{left_next, left_end}
+use Rattle.st_tree.specs.Expression.{expression_of, expressions_of, arguments_of, tail_of, tails_of}
 use Rattle.st_values.specs.View.{program_of}
-use Rattle.st_meaning.specs.st_frame.Use.{is_bound, expression_uses, tail_uses, argument_uses}
+use Rattle.st_meaning.specs.st_frame.Use.{is_bound, expression_uses, index_uses, tail_uses, argument_uses}
 use Rattle.routine_tables.specs.Parameters.{parameters_of}
 use Rattle.body_uses.specs.Uses.{uses_of}
-use Rattle.body_uses.proofs.UseLaws.{place_goes, positional_goes, input_goes, output_goes, call_goes, call_arm, row_goes, field_goes, target_goes}
+use Rattle.body_uses.proofs.CallLaws.{none_in_int, none_in_typed, none_in_time, none_in_true, none_in_false, none_in_null, none_in_enumerator, none_in_now}
+use Rattle.body_uses.proofs.UseLaws.{leaf_goes, place_node_goes, ref_goes, paren_goes, not_goes, negate_goes, index_goes, tail_goes, place_goes, positional_goes, input_goes, output_goes, call_goes, call_arm, row_goes, field_goes, target_goes}
 use Rattle.body_uses.proofs.expressions.+uses.Goals as goal
 
 pub add_place-returns : goal.add_place-returns
@@ -44,3 +46,64 @@ add_selector-returns-in-Field t c = field_goes (program_of c.args.c.tables.now) 
 
 pub add_selector-returns-in-Target : goal.add_selector-returns-in-Target
 add_selector-returns-in-Target t c = target_goes (program_of c.args.c.tables.now) _ c.args.selector.now c.in-Target.field-0 c.in-Target.is
+
+pub add_expression-returns-in_ok-add_place-in-Place : goal.add_expression-returns-in_ok-add_place-in-Place
+add_expression-returns-in_ok-add_place-in-Place t c = place_node_goes (program_of c.args.c.tables.now) (uses_of c.args.uses.now.items) _ _ _ _ c.in-Place.is c.in_ok-add_place-in-Place.ensures
+
+pub add_expression-returns-in_ok-add_place-in-Ref : goal.add_expression-returns-in_ok-add_place-in-Ref
+add_expression-returns-in_ok-add_place-in-Ref t c = ref_goes (program_of c.args.c.tables.now) (uses_of c.args.uses.now.items) _ _ _ _ c.in-Ref.is c.in_ok-add_place-in-Ref.ensures
+
+pub add_expression-returns-in_ok-add_expression-in-Paren : goal.add_expression-returns-in_ok-add_expression-in-Paren
+add_expression-returns-in_ok-add_expression-in-Paren t c = paren_goes (program_of c.args.c.tables.now) (uses_of c.args.uses.now.items) _ _ _ _ _ c.in-Paren.is c.get.ensures c.in_ok-add_expression-in-Paren.ensures
+
+pub add_expression-returns-in_ok-add_expression-in-Not : goal.add_expression-returns-in_ok-add_expression-in-Not
+add_expression-returns-in_ok-add_expression-in-Not t c = not_goes (program_of c.args.c.tables.now) (uses_of c.args.uses.now.items) _ _ _ _ _ c.in-Not.is c.get-in-Not.ensures c.in_ok-add_expression-in-Not.ensures
+
+pub add_expression-returns-in_ok-add_expression-in-Negate : goal.add_expression-returns-in_ok-add_expression-in-Negate
+add_expression-returns-in_ok-add_expression-in-Negate t c = negate_goes (program_of c.args.c.tables.now) (uses_of c.args.uses.now.items) _ _ _ _ _ c.in-Negate.is c.get-in-Negate.ensures c.in_ok-add_expression-in-Negate.ensures
+
+pub add_expression-returns-in-Int : goal.add_expression-returns-in-Int
+add_expression-returns-in-Int t c = leaf_goes (program_of c.args.c.tables.now) (uses_of c.args.uses.now.items) _ _ c.in-Int.is (none_in_int _ _ _ _)
+
+pub add_expression-returns-in-Typed : goal.add_expression-returns-in-Typed
+add_expression-returns-in-Typed t c = leaf_goes (program_of c.args.c.tables.now) (uses_of c.args.uses.now.items) _ _ c.in-Typed.is (none_in_typed _ _ _ _ _)
+
+pub add_expression-returns-in-Time : goal.add_expression-returns-in-Time
+add_expression-returns-in-Time t c = leaf_goes (program_of c.args.c.tables.now) (uses_of c.args.uses.now.items) _ _ c.in-Time.is (none_in_time _ _ _ _)
+
+pub add_expression-returns-in-True : goal.add_expression-returns-in-True
+add_expression-returns-in-True t c = leaf_goes (program_of c.args.c.tables.now) (uses_of c.args.uses.now.items) _ _ c.in-True.is (none_in_true _ _ _)
+
+pub add_expression-returns-in-False : goal.add_expression-returns-in-False
+add_expression-returns-in-False t c = leaf_goes (program_of c.args.c.tables.now) (uses_of c.args.uses.now.items) _ _ c.in-False.is (none_in_false _ _ _)
+
+pub add_expression-returns-in-Null : goal.add_expression-returns-in-Null
+add_expression-returns-in-Null t c = leaf_goes (program_of c.args.c.tables.now) (uses_of c.args.uses.now.items) _ _ c.in-Null.is (none_in_null _ _ _)
+
+pub add_expression-returns-in-Enumerator : goal.add_expression-returns-in-Enumerator
+add_expression-returns-in-Enumerator t c = leaf_goes (program_of c.args.c.tables.now) (uses_of c.args.uses.now.items) _ _ c.in-Enumerator.is (none_in_enumerator _ _ _ _ _ _)
+
+pub add_expression-returns-in-Now : goal.add_expression-returns-in-Now
+add_expression-returns-in-Now t c = leaf_goes (program_of c.args.c.tables.now) (uses_of c.args.uses.now.items) _ _ c.in-Now.is (none_in_now _ _ _)
+
+pub add_selector-returns-in_ok-add_indices-in-Index : goal.add_selector-returns-in_ok-add_indices-in-Index
+add_selector-returns-in_ok-add_indices-in-Index t c = index_goes (program_of c.args.c.tables.now) (uses_of c.args.uses.now.items) _ _ _ _ _ c.in-Index.is c.as_slice.ensures c.in_ok-add_indices-in-Index.ensures
+
+pub add_tail-returns : goal.add_tail-returns
+add_tail-returns t c = tail_goes (program_of c.args.c.tables.now) c.add_expression.result (uses_of c.args.uses.now.items) _ c.args.tail.now c.add_expression.ensures
+
+pub add_indices-loop-index-preserved : goal.add_indices-loop-index-preserved
+add_indices-loop-index-preserved t c =
+    left_next (λ es. index_uses (program_of c.args.c.tables.now) (expressions_of es)) c.args.indices.now c.loop-index.index-index c.index-item.result (uses_of c.loop-index.uses.items) _ (expression_uses (program_of c.args.c.tables.now) (expression_of c.index-item.result)) _
+    c.loop-index-test.true c.index-item.is refl c.in_ok-add_expression.ensures c.loop-index.invariant
+
+pub add_indices-returns : goal.add_indices-returns
+add_indices-returns t c = left_end (λ es. index_uses (program_of c.args.c.tables.now) (expressions_of es)) c.args.indices.now c.loop-index.index-index (uses_of c.loop-index.uses.items) _ refl c.loop-index-test.false c.loop-index.invariant
+
+pub add_tails-loop-tail-preserved : goal.add_tails-loop-tail-preserved
+add_tails-loop-tail-preserved t c =
+    left_next (λ ts. tail_uses (program_of c.args.c.tables.now) (tails_of ts)) c.args.tails.now c.loop-tail.tail-index c.tail-item.result (uses_of c.loop-tail.uses.items) _ (expression_uses (program_of c.args.c.tables.now) (tail_of c.tail-item.result).2) _
+    c.loop-tail-test.true c.tail-item.is refl c.in_ok-add_tail.ensures c.loop-tail.invariant
+
+pub add_tails-returns : goal.add_tails-returns
+add_tails-returns t c = left_end (λ ts. tail_uses (program_of c.args.c.tables.now) (tails_of ts)) c.args.tails.now c.loop-tail.tail-index (uses_of c.loop-tail.uses.items) _ refl c.loop-tail-test.false c.loop-tail.invariant
