@@ -1,6 +1,7 @@
 -- Expressions by their variants: in the value of some no other expression counts.
-use Rattle.std.proofs.Common.{◌≡◌, ℕ, true, List, refl, ap}
+use Rattle.std.proofs.Common.{◌≡◌, ℕ, true, List, refl, ap, ◌∙◌}
 use Rattle.st_types.specs.declared.elem.Elem.{Elem}
+use Rattle.st_tree.specs.declared.expression.Expr.{Expr}
 use Rattle.st_tree.specs.declared.expression.Expr.TheVariants as code
 use Rattle.st_tree.specs.declared.expression.Literal.{Literal}
 use Rattle.st_tree.specs.declared.expression.Place.{Place as CodePlace}
@@ -60,4 +61,5 @@ ref_leaf l p = ap is_leaf (expression_of-Ref l p)
 pub now_leaf : (l : ℕ) → is_leaf (expression_of (code.Now l)) ≡ true
 now_leaf l = ap is_leaf (expression_of-Now l)
 
-pub ruleset leaf_arms = (int_leaf, typed_leaf, time_leaf, true_leaf, false_leaf, null_leaf, place_leaf, enumerator_leaf, ref_leaf, now_leaf)
+pub leaf_arm : (e x : Expr ℕ) → e ≡ x → is_leaf (expression_of x) ≡ true → is_leaf (expression_of e) ≡ true
+leaf_arm e x h k = ap (λ y. is_leaf (expression_of y)) h ∙ k

@@ -29,7 +29,6 @@ use std::alloc::Global;
 
 /// The type of an expression at a place that asks for something, and what it comes to where it is a constant, also where it breaks rules.
 #[cycle(evaluation)]
-#[tactic(auto, using(crate::proofs::LeafLaws::leaf_arms))]
 pub fn evaluate(
     alloc: Global,
     s: &Scope<'_>,
@@ -39,18 +38,12 @@ pub fn evaluate(
     ensures { IfOk result (λ v. IsWorth v s.now asked.now (expression_of e.now)) }
 {
     match e {
-        Expr::Paren(_, inner) => {
-            let x = evaluate(alloc, s, inner.get(), asked)?;
-            Ok(x)
-        }
+        Expr::Paren(_, inner) => evaluate(alloc, s, inner.get(), asked),
         Expr::Not(_, inner) => {
             let x = evaluate(alloc, s, inner.get(), &Asked::Anything)?;
             Ok(behind_not(x))
         }
-        Expr::Negate(line, inner) => {
-            let x = negate_valued(alloc, s, inner.get(), *line, asked)?;
-            Ok(x)
-        }
+        Expr::Negate(line, inner) => negate_valued(alloc, s, inner.get(), *line, asked),
         Expr::Chain(_, first, tails) => {
             let first = first.get();
             let tails = tails.as_slice();
@@ -71,49 +64,18 @@ pub fn evaluate(
             Ok(Valued { told, value })
         }
         Expr::Call(line, place, arguments) => {
-            let x = call_valued(alloc, s, arguments.as_slice(), *line, place, asked)?;
-            Ok(x)
+            call_valued(alloc, s, arguments.as_slice(), *line, place, asked)
         }
-        Expr::Int(_, _) => {
-            let x = leaf(alloc, s, e, asked)?;
-            Ok(x)
-        }
-        Expr::Typed(_, _, _) => {
-            let x = leaf(alloc, s, e, asked)?;
-            Ok(x)
-        }
-        Expr::Time(_, _) => {
-            let x = leaf(alloc, s, e, asked)?;
-            Ok(x)
-        }
-        Expr::True(_) => {
-            let x = leaf(alloc, s, e, asked)?;
-            Ok(x)
-        }
-        Expr::False(_) => {
-            let x = leaf(alloc, s, e, asked)?;
-            Ok(x)
-        }
-        Expr::Null(_) => {
-            let x = leaf(alloc, s, e, asked)?;
-            Ok(x)
-        }
-        Expr::Place(_, _) => {
-            let x = leaf(alloc, s, e, asked)?;
-            Ok(x)
-        }
-        Expr::Enumerator(_, _, _, _) => {
-            let x = leaf(alloc, s, e, asked)?;
-            Ok(x)
-        }
-        Expr::Ref(_, _) => {
-            let x = leaf(alloc, s, e, asked)?;
-            Ok(x)
-        }
-        Expr::Now(_) => {
-            let x = leaf(alloc, s, e, asked)?;
-            Ok(x)
-        }
+        Expr::Int(_, _) => leaf(alloc, s, e, asked),
+        Expr::Typed(_, _, _) => leaf(alloc, s, e, asked),
+        Expr::Time(_, _) => leaf(alloc, s, e, asked),
+        Expr::True(_) => leaf(alloc, s, e, asked),
+        Expr::False(_) => leaf(alloc, s, e, asked),
+        Expr::Null(_) => leaf(alloc, s, e, asked),
+        Expr::Place(_, _) => leaf(alloc, s, e, asked),
+        Expr::Enumerator(_, _, _, _) => leaf(alloc, s, e, asked),
+        Expr::Ref(_, _) => leaf(alloc, s, e, asked),
+        Expr::Now(_) => leaf(alloc, s, e, asked),
     }
 }
 

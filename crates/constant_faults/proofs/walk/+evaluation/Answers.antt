@@ -1,7 +1,9 @@
 use Rattle.std.proofs.Common.{refl, ap, ◌∙◌}
 use Rattle.st_unit_rules.specs.declared_names.Constants.{converted_value}
 use Rattle.st_check_expr.specs.CalleeWords.{called}
+use Rattle.st_check_expr.proofs.OkLaws.{when_ok}
 use Rattle.constant_faults.proofs.AheadSteps.{looks_nowhere}
+use Rattle.constant_faults.proofs.LeafLaws.{leaf_arm, int_leaf, typed_leaf, time_leaf, true_leaf, false_leaf, null_leaf, place_leaf, enumerator_leaf, ref_leaf, now_leaf}
 use Rattle.constant_faults.proofs.LoopSteps.{looks_here, steps_to, end_arm}
 use Rattle.constant_faults.proofs.NodeLaws.{paren_arm, not_arm, sign_arm, chain_arm, call_arm, sign_worth, conversion_worth, plain_worth, positional_given, input_given, output_given}
 use Rattle.constant_faults.proofs.StepLaws.{step_ends_typed, step_goes_on, step_ends_nowhere, untyped_step, kept_step, fresh_step}
@@ -9,21 +11,53 @@ use Rattle.constant_faults.proofs.walk.+evaluation.Goals as goal
 
 -- ---- expressions
 
-pub evaluate-returns-in_ok-x-in-Paren : goal.evaluate-returns-in_ok-x-in-Paren
-evaluate-returns-in_ok-x-in-Paren t c = paren_arm _ _ _ _ _ _ _ c.get.ensures c.in-Paren.is c.in_ok-x-in-Paren.ensures
+pub evaluate-returns-in-Paren : goal.evaluate-returns-in-Paren
+evaluate-returns-in-Paren t c = when_ok c.evaluate.result c.evaluate.ensures (λ x w. paren_arm _ _ _ _ _ _ _ c.get.ensures c.in-Paren.is w)
 
 pub evaluate-returns-in_ok-x-in-Not : goal.evaluate-returns-in_ok-x-in-Not
 evaluate-returns-in_ok-x-in-Not t c = not_arm _ _ _ _ _ _ _ c.get-in-Not.ensures _ c.in-Not.is c.behind_not.ensures c.in_ok-x-in-Not.ensures
 
-pub evaluate-returns-in_ok-x-in-Negate : goal.evaluate-returns-in_ok-x-in-Negate
-evaluate-returns-in_ok-x-in-Negate t c = sign_arm _ _ _ _ _ _ _ c.get-in-Negate.ensures c.in-Negate.is c.in_ok-x-in-Negate.ensures
+pub evaluate-returns-in-Negate : goal.evaluate-returns-in-Negate
+evaluate-returns-in-Negate t c = when_ok c.negate_valued.result c.negate_valued.ensures (λ x w. sign_arm _ _ _ _ _ _ _ c.get-in-Negate.ensures c.in-Negate.is w)
 
 pub evaluate-returns-in_ok-row-in-Chain : goal.evaluate-returns-in_ok-row-in-Chain
 evaluate-returns-in_ok-row-in-Chain t c =
     chain_arm _ _ _ _ _ _ _ _ _ _ _ _ _ _ c.in-Chain.is c.get-first.ensures c.as_slice-tails.ensures c.is_untyped-untyped.ensures c.in_ok-ahead-in-Chain.ensures.wanted c.began-row.ensures c.in_ok-x-in-Chain.ensures c.in_ok-row-in-Chain.ensures refl refl
 
-pub evaluate-returns-in_ok-x-in-Call : goal.evaluate-returns-in_ok-x-in-Call
-evaluate-returns-in_ok-x-in-Call t c = call_arm _ _ _ _ _ _ _ _ c.in-Call.is c.as_slice.ensures c.in_ok-x-in-Call.ensures
+pub evaluate-returns-in-Call : goal.evaluate-returns-in-Call
+evaluate-returns-in-Call t c = when_ok c.call_valued.result c.call_valued.ensures (λ x w. call_arm _ _ _ _ _ _ _ _ c.in-Call.is c.as_slice.ensures w)
+
+-- ---- leaves
+
+pub evaluate-leaf-requires : goal.evaluate-leaf-requires
+evaluate-leaf-requires t c = leaf_arm _ _ c.in-Int.is (int_leaf _ _)
+
+pub evaluate-leaf-requires-in-Typed : goal.evaluate-leaf-requires-in-Typed
+evaluate-leaf-requires-in-Typed t c = leaf_arm _ _ c.in-Typed.is (typed_leaf _ _ _)
+
+pub evaluate-leaf-requires-in-Time : goal.evaluate-leaf-requires-in-Time
+evaluate-leaf-requires-in-Time t c = leaf_arm _ _ c.in-Time.is (time_leaf _ _)
+
+pub evaluate-leaf-requires-in-True : goal.evaluate-leaf-requires-in-True
+evaluate-leaf-requires-in-True t c = leaf_arm _ _ c.in-True.is (true_leaf _)
+
+pub evaluate-leaf-requires-in-False : goal.evaluate-leaf-requires-in-False
+evaluate-leaf-requires-in-False t c = leaf_arm _ _ c.in-False.is (false_leaf _)
+
+pub evaluate-leaf-requires-in-Null : goal.evaluate-leaf-requires-in-Null
+evaluate-leaf-requires-in-Null t c = leaf_arm _ _ c.in-Null.is (null_leaf _)
+
+pub evaluate-leaf-requires-in-Place : goal.evaluate-leaf-requires-in-Place
+evaluate-leaf-requires-in-Place t c = leaf_arm _ _ c.in-Place.is (place_leaf _ _)
+
+pub evaluate-leaf-requires-in-Enumerator : goal.evaluate-leaf-requires-in-Enumerator
+evaluate-leaf-requires-in-Enumerator t c = leaf_arm _ _ c.in-Enumerator.is (enumerator_leaf _ _ _ _)
+
+pub evaluate-leaf-requires-in-Ref : goal.evaluate-leaf-requires-in-Ref
+evaluate-leaf-requires-in-Ref t c = leaf_arm _ _ c.in-Ref.is (ref_leaf _ _)
+
+pub evaluate-leaf-requires-in-Now : goal.evaluate-leaf-requires-in-Now
+evaluate-leaf-requires-in-Now t c = leaf_arm _ _ c.in-Now.is (now_leaf _)
 
 -- ---- signs
 
