@@ -34,7 +34,6 @@ pub enum Part {
 }
 
 /// What was read so far.
-#[derive(Drop)]
 pub struct Reader {
     part: Part,
     program: Text,
@@ -45,6 +44,25 @@ pub struct Reader {
     /// Its text so far.
     text: Text,
     played: Played,
+}
+
+// By hand, so that a drop is one call: a derived one is written out wherever a `?` may need it.
+impl Drop for Reader {
+    fn drop(self) {
+        let Reader {
+            part: _,
+            program,
+            sources,
+            name,
+            text,
+            played,
+        } = self;
+        drop(program);
+        drop(sources);
+        drop(name);
+        drop(text);
+        drop(played);
+    }
 }
 
 impl Reader {
