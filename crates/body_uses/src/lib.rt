@@ -8,7 +8,6 @@ mod places;
 mod statements;
 mod uses;
 
-pub use call_steps;
 pub use calls::Callables;
 pub use statements::body_uses;
 pub use uses::{Called, Owner, Use};

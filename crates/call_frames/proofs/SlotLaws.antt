@@ -5,8 +5,8 @@ use Rattle.std.proofs.lemmas.List.{map-append}
 use Rattle.st_rules.proofs.ListLaws.{drop-at, drop-end}
 use Rattle.st_values.specs.Program.{Program}
 use Rattle.st_meaning.specs.Call.{initial_slot, initial_slots}
-use Rattle.initial_trees.specs.Variable as held
-use Rattle.initial_trees.specs.Variables.{variable_of, variables_of}
+use Rattle.program_tables.specs.declared.st_initial.variables.Variable as held
+use Rattle.program_tables.specs.st_initial.Variables.{variable_of, variables_of}
 use Rattle.run_state.specs.declared.state.Slot.{Slot as CodeSlot}
 use Rattle.run_state.specs.State.{slot_of}
 

@@ -4,16 +4,16 @@ ghost use Rattle.std.specs.Prelude.{◌≡◌, ◌∷◌, [], IfOk, List, OnOk, 
 ghost use Rattle.st_meaning.specs.Call as words;
 ghost use Rattle.st_meaning.specs.State.{in_store, into};
 ghost use Rattle.st_values.specs.View.{program_of};
-ghost use Rattle.initial_trees.specs.Members as tables;
-ghost use Rattle.initial_trees.specs.Variables.{variables_of};
+ghost use Rattle.program_tables.specs.st_initial.Members as tables;
+ghost use Rattle.program_tables.specs.st_initial.Variables.{variables_of};
 ghost use Rattle.run_state.specs.State.{Agrees, Keeps, base_of, slot_of, spot_of, state_of};
 ghost use Rattle.value_trees.specs.Value.{value_of};
 ghost use Rattle.call_frames.specs.Opening.{given_of, opened};
 ghost use Rattle.call_frames.specs.Private.Slots.{one_variable};
 
 use crate::slots::{Given, initial_slots, set_slot};
-use initial_trees::program_tables::{Members, Variable};
 use plc_text::{FaultKind, NoMemory, Series};
+use program_tables::{Members, Variable};
 use run_state::{Frame, RunState, Slot, Spot, Stop, fault, into_part, push, put};
 use st_tree::{Path, Program, Step};
 use std::alloc::Global;

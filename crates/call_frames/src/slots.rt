@@ -3,13 +3,13 @@
 ghost use Rattle.std.specs.Prelude.{◌≡◌, IfOk, map, slice_set};
 ghost use Rattle.st_meaning.specs.Call as words;
 ghost use Rattle.st_values.specs.View.{program_of};
-ghost use Rattle.initial_trees.specs.Members as tables;
-ghost use Rattle.initial_trees.specs.Variables.{variable_of, variables_of};
+ghost use Rattle.program_tables.specs.st_initial.Members as tables;
+ghost use Rattle.program_tables.specs.st_initial.Variables.{variable_of, variables_of};
 ghost use Rattle.run_state.specs.State.{slot_of};
 
 use initial_trees::initial_value;
-use initial_trees::program_tables::{Members, Variable};
 use plc_text::{NoMemory, Series};
+use program_tables::{Members, Variable};
 use run_state::Slot;
 use st_tree::{Program, SectionSort};
 use std::alloc::Global;

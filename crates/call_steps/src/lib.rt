@@ -6,12 +6,9 @@ mod found;
 mod given;
 mod left;
 
-pub use call_frames;
 pub use callee::{Callee, Search, callee_of, class_of_kind};
 pub use found::{Found, base_body, body_on, function_of, instance_class, method_on};
 pub use given::{
     behind_next, given_place, given_value, is_in_out, next_parameter, parameter_named, same_in_outs,
 };
 pub use left::{converted_value, output_left};
-pub use routine_tables;
-pub use run_steps;

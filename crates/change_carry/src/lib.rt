@@ -7,5 +7,4 @@ mod parts;
 mod references;
 mod store;
 
-pub use change_names;
 pub use store::carry_store;

@@ -8,7 +8,7 @@ ghost use Rattle.st_values.specs.View.{program_of};
 ghost use Rattle.shape_trees.specs.Shape.{fields_of, shape_of};
 ghost use Rattle.value_trees.specs.Value.{members_of, value_of, values_of};
 ghost use Rattle.change_names.specs.change_pairs.Places.{found_in};
-ghost use Rattle.change_names.specs.change_paths.Pairs.{or_none};
+ghost use Rattle.change_names.specs.Pairs.{or_none};
 ghost use Rattle.change_names.specs.change_paths.Change.{IsChange};
 ghost use Rattle.change_carry.specs.Private.Parts.{ArePlacesOf, array_values, element_at, elements_in, elements_of, instance_members, instance_parts, part_in, part_named, part_of, parts_of, structure_members, structure_parts};
 

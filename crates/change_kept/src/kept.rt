@@ -1,7 +1,7 @@
 //! Which regions of a new program are kept.
 
 ghost use Rattle.std.specs.Prelude.{◌≡◌, IfOk, slice_get};
-ghost use Rattle.change_names.specs.change_paths.Regions.{number_at};
+ghost use Rattle.change_names.specs.Regions.{number_at};
 ghost use Rattle.change_names.specs.change_paths.Change.{IsChange};
 ghost use Rattle.change_kept.specs.Kept.{AreKept, is_set};
 ghost use Rattle.st_change.specs.Counterpart as words;

@@ -5,4 +5,3 @@ pub mod Regions
 pub mod Side
 pub mod change_pairs
 pub mod change_paths
-pub use Rattle.change_names.specs.change_pairs.Places

@@ -8,15 +8,15 @@ ghost use Rattle.st_rules.specs.Scope.{Scope as AScope, method_routine, prototyp
 ghost use Rattle.st_rules.specs.Places as places;
 ghost use Rattle.st_rules.specs.Calls as calls;
 ghost use Rattle.st_rules.specs.Expressions as expressions;
-ghost use Rattle.check_places.specs.Meant.{meant};
+ghost use Rattle.name_resolution.specs.Meant.{meant};
 ghost use Rattle.check_places.specs.Standing.{standing, parted};
 ghost use Rattle.check_calls.specs.Callee.{called};
 ghost use Rattle.check_calls.specs.Private.Callee.{leads};
 
-use check_places::name_resolution::{Meant, Scope};
 use check_places::{
     Part, Standing, conversion_named, is_last, part_of, root_fault, root_standing, selected,
 };
+use name_resolution::{Meant, Scope};
 use plc_text::Code;
 use st_rules::{DeclaredRoutine, MethodId, PrototypeId};
 use st_tree::{Root, Selector};

@@ -7,7 +7,7 @@ ghost use Rattle.st_rules.specs.Types.{same_type};
 ghost use Rattle.st_rules.specs.Kinds as kinds;
 ghost use Rattle.st_rules.specs.Calls as calls;
 
-use check_places::name_resolution::Scope;
+use name_resolution::Scope;
 use plc_text::Code;
 use st_rules::{Asked, when};
 use st_types::{Elem, StType};

@@ -20,7 +20,7 @@ use crate::heads::{Head, any_named, any_unnamed};
 use crate::matching::{Way, given_of, has_right_number, parameter_named};
 use crate::names::{NameSet, add, has};
 use crate::parameters::block_parameters;
-use check_places::name_resolution::Scope;
+use name_resolution::Scope;
 use plc_text::{Code, NoMemory, Text};
 use st_rules::{DeclaredVariable, ResultType, at, copied, earlier, when};
 use st_tree::SectionSort;

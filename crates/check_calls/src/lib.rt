@@ -11,8 +11,6 @@ mod names;
 mod parameters;
 
 pub use callee::{Callee, called_root_fault, callee_at, is_on_super};
-pub use check_places;
-pub use check_places::{name_resolution, st_operators};
 pub use conversions::{binding_fault, is_assignable, is_bindable, output_fault, value_fault};
 pub use faults::{call_type, callee_fault, result_fault};
 pub use heads::{Head, heads_of};

@@ -7,7 +7,7 @@ ghost use Rattle.check_calls.specs.Callee.{called};
 ghost use Rattle.check_calls.specs.Parameters.{parameters_of, operand_kind};
 
 use crate::callee::Callee;
-use check_places::name_resolution::Scope;
+use name_resolution::Scope;
 use plc_text::{NoMemory, Text};
 use st_rules::{Access, DeclaredVariable, is_parameter_sort};
 use st_tree::{SectionSort, Target};

@@ -3,4 +3,3 @@ pub mod ElementLaws
 pub mod DimensionLaws
 pub mod ArrayLaws
 pub mod TypeLaws
-pub use Rattle.check_initial_values.proofs.Parts

@@ -5,8 +5,6 @@ pub mod entry_rules;
 pub mod type_rules;
 pub mod variable_rules;
 
-pub use check_initial_values;
-pub use check_names;
 pub use entry_rules::{CheckedEntry, check_entry};
 pub use type_rules::{CheckedType, check_type};
 pub use variable_rules::{

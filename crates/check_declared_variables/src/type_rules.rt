@@ -6,5 +6,4 @@ mod dimensions;
 mod elements;
 mod types;
 
-pub use check_initial_values;
 pub use types::{CheckedType, check_type};

@@ -8,7 +8,6 @@ mod results;
 mod rules;
 mod sections;
 
-pub use check_names;
 pub use copies::copied_names;
 pub use given::{CheckedGiven, check_given};
 pub use items::{CheckedItem, check_item};

@@ -16,7 +16,7 @@ use Rattle.st_rules.specs.Literals.{asked_of}
 use Rattle.st_rules.specs.Scope.{Scope}
 use Rattle.st_unit_rules.specs.declared_names.Constants.{constant_faults, constant_value}
 use Rattle.st_unit_rules.specs.Initials.{Given, given_by, is_not_found, is_out_of_access, field_not_found, field_named_twice, field_out_of_access, outcome_target, with_note, typed_constant}
-use Rattle.st_check_expr.specs.Outcome.{outcome}
+use Rattle.constant_folding.specs.constant_values.Outcome.{outcome}
 use Rattle.st_check_expr.specs.declared.constants.Constant.{Constant}
 use Rattle.st_check_expr.specs.Constants.{IsConstant}
 use Rattle.check_initial_values.specs.declared.found.CheckedInitial.{CheckedInitial}

@@ -11,9 +11,9 @@ ghost use Rattle.check_initial_values.specs.Lent.{lent};
 ghost use Rattle.check_initial_values.specs.Private.Names.{name_faults};
 
 use check_names::name_spaces::HeldNames;
+use check_places::note;
+use name_resolution::Scope;
 use plc_text::{Code, NoMemory, Text};
-use st_check_expr::check_nodes::check_places::note;
-use st_check_expr::check_nodes::name_resolution::Scope;
 use st_rules::{DeclaredField, DeclaredVariable, earlier, when};
 use st_tree::{FieldInit, Note, Target};
 use st_types::StType;

@@ -9,6 +9,5 @@ mod walk;
 mod worth;
 
 pub use found::CheckedInitial;
-pub use st_check_expr;
 pub use walk::check_initial;
 pub use worth::with_value;

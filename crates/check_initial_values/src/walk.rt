@@ -16,8 +16,8 @@ use crate::nodes::{
 };
 use crate::worth::with_value;
 use check_names::name_spaces::HeldNames;
+use name_resolution::Scope;
 use plc_text::{Code, NoMemory, Text};
-use st_check_expr::check_nodes::name_resolution::Scope;
 use st_check_expr::{Constant, check_constant};
 use st_operators::asked_of;
 use st_rules::earlier;

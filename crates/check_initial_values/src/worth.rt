@@ -3,10 +3,10 @@
 ghost use Rattle.std.specs.Prelude.{◌≡◌, IfOk};
 ghost use Rattle.st_tree.specs.Expression.{expression_of};
 ghost use Rattle.st_unit_rules.specs.Initials as initials;
-ghost use Rattle.st_check_expr.specs.Outcome.{outcome};
+ghost use Rattle.constant_folding.specs.constant_values.Outcome.{outcome};
 ghost use Rattle.check_initial_values.specs.Worth.{noted};
 
-use st_check_expr::constant_folding::Outcome;
+use constant_folding::Outcome;
 use st_tree::{Expr, Note, Target};
 use st_types::StType;
 

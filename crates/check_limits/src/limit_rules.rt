@@ -6,6 +6,5 @@ mod depths;
 mod locals;
 
 pub use counts::{methods_fault, parameters_fault};
-pub use declared_graph;
 pub use depths::{Within, class_too_deep, structure_too_deep, too_deep};
 pub use locals::{add_body_values, locals_fault, too_many_locals};

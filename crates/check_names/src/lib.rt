@@ -5,5 +5,3 @@ pub mod declarations_before;
 pub mod member_names;
 pub mod name_rules;
 pub mod name_spaces;
-
-pub use check_places::name_resolution;

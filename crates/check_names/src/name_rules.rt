@@ -3,6 +3,5 @@
 mod configurations;
 mod spaces;
 
-pub use check_places::name_resolution;
 pub use configurations::{configuration_name_fault, hold_names};
 pub use spaces::{conversion_fault, local_name_fault, prototype_name_fault, space_fault};

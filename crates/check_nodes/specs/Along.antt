@@ -7,8 +7,8 @@ use Rattle.st_rules.specs.Faults.{earlier}
 use Rattle.st_rules.specs.Scope.{Scope}
 use Rattle.st_rules.specs.Places as places
 use Rattle.st_rules.specs.Expressions.{part_note, standing_note}
-use Rattle.check_calls.specs.StandingPlace.{Standing}
-use Rattle.check_calls.specs.Standing.{standing}
+use Rattle.check_places.specs.declared.standing.Standing.{Standing}
+use Rattle.check_places.specs.Standing.{standing}
 use Rattle.check_nodes.specs.declared.along.Along.{Along}
 use Rattle.check_nodes.specs.declared.along.CheckedSelector.{CheckedSelector}
 use Rattle.check_nodes.specs.declared.lists.Indices.{Indices}

@@ -8,7 +8,3 @@ pub mod Rows
 pub mod Slots
 pub mod Wholes
 pub mod Wraps
-pub use Rattle.check_calls.specs.Standing
-pub use Rattle.check_calls.specs.StandingPlace
-pub use Rattle.check_calls.specs.declared.callee.Callee
-pub use Rattle.check_calls.specs.Callee as CalleeWords

@@ -4,12 +4,12 @@ ghost use Rattle.std.specs.Prelude.{◌≡◌, ◌<◌, ◌+◌, length, drop, I
 ghost use Rattle.st_tree.specs.Expression.{selectors_of};
 ghost use Rattle.st_rules.specs.Scope.{Scope as AScope};
 ghost use Rattle.st_rules.specs.Places as places;
-ghost use Rattle.check_calls.specs.Standing.{standing};
+ghost use Rattle.check_places.specs.Standing.{standing};
 ghost use Rattle.check_nodes.specs.Along.{Starts, Extends, IsField, IsIndex, IsTarget};
 
 use crate::lists::Indices;
-use check_calls::check_places::{Standing, part_note, standing_note};
-use check_calls::name_resolution::Scope;
+use check_places::{Standing, part_note, standing_note};
+use name_resolution::Scope;
 use plc_text::{Code, Items, NoMemory, Text};
 use st_rules::earlier;
 use st_tree::{Note, Selector};

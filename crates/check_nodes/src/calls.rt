@@ -11,12 +11,12 @@ use crate::found::{Checked, noted};
 use crate::lists::Arguments;
 use crate::slots::{Slot, slots_of};
 use crate::wholes::CheckedPlace;
-use check_calls::check_places::{root_line, selectors_fault};
-use check_calls::name_resolution::Scope;
 use check_calls::{
     Callee, block_parameters, call_type, callee_at, callee_fault, heads_of, is_on_super, matches,
     operand_of, result_fault, routine_parameters,
 };
+use check_places::{root_line, selectors_fault};
+use name_resolution::Scope;
 use plc_text::{Code, NoMemory};
 use st_rules::{DeclaredVariable, earlier};
 use st_tree::{Argument, Expr, Root, Selector};

@@ -4,7 +4,7 @@ ghost use Rattle.std.specs.Prelude.{◌≡◌, IfOk};
 ghost use Rattle.st_tree.specs.declared.program.Target.TheVariants as target;
 ghost use Rattle.st_rules.specs.Expressions as expressions;
 
-use check_calls::check_places::note;
+use check_places::note;
 use plc_text::{Code, NoMemory};
 use st_rules::copied;
 use st_tree::{Expr, Note, Target};

@@ -15,13 +15,13 @@ use crate::lists::CheckedArgument;
 use crate::slots::Slot;
 use crate::untyped::line_of;
 use crate::wholes::CheckedPlace;
-use check_calls::check_places::{
+use check_calls::{binding_fault, is_assignable, output_fault};
+use check_places::{
     is_fixed, note, note_of, placed, root_line, standing_type, target_fault, whole_fault,
 };
-use check_calls::name_resolution::Scope;
-use check_calls::st_operators::asked_of;
-use check_calls::{binding_fault, is_assignable, output_fault};
+use name_resolution::Scope;
 use plc_text::{Code, NoMemory, Text};
+use st_operators::asked_of;
 use st_rules::{Asked, copied, earlier, when};
 use st_tree::{Argument, Expr, Note, Root, SectionSort, Selector, Target};
 use st_types::StType;

@@ -10,12 +10,12 @@ ghost use Rattle.st_rules.specs.Expressions as expressions;
 ghost use Rattle.check_nodes.specs.Found.{Finds};
 
 use crate::found::{Checked, noted};
-use check_calls::check_places::note;
-use check_calls::st_operators::{
+use check_places::note;
+use plc_text::{NoMemory, Text};
+use st_operators::{
     duration_fault, int_fault, int_type, literal_fault, literal_type, negative_fault,
     negative_type, null_type,
 };
-use plc_text::{NoMemory, Text};
 use st_rules::Asked;
 use st_tree::{Expr, Literal, Note, Target};
 use st_types::{Boxed, Elem, StType};

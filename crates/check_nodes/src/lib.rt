@@ -20,8 +20,6 @@ pub use along::{
     Along, CheckedSelector, extended, is_last_at, noted_field, noted_index, noted_target, started,
 };
 pub use calls::{Prepared, finish, prepare};
-pub use check_calls;
-pub use check_calls::{check_places, name_resolution, st_operators};
 pub use count::operators_fault;
 pub use found::Checked;
 pub use given::{asked_for, input, output, positional};

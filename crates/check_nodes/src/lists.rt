@@ -4,8 +4,8 @@ ghost use Rattle.std.specs.Prelude.{◌≡◌, IfOk};
 ghost use Rattle.check_nodes.specs.Lists.{NoIndex, NoArgument, AddsIndex, AddsArgument};
 
 use crate::found::Checked;
-use check_calls::st_operators::index_fault;
 use plc_text::{Code, Items, NoMemory};
+use st_operators::index_fault;
 use st_rules::earlier;
 use st_tree::{Argument, Expr, Note};
 use std::alloc::Global;

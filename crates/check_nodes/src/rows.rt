@@ -8,10 +8,10 @@ ghost use Rattle.st_rules.specs.Expressions as expressions;
 ghost use Rattle.check_nodes.specs.Rows.{Begins, Joins, Closes, EndsFront, Looks};
 
 use crate::found::{Checked, noted};
-use check_calls::st_operators::{
+use plc_text::{Code, Items, NoMemory};
+use st_operators::{
     asked_of, is_arithmetic, is_number_type, number_asked, operands_fault, operation_type,
 };
-use plc_text::{Code, Items, NoMemory};
 use st_rules::{Asked, asked_again, copied, earlier};
 use st_tree::{Expr, Note, Operator, Tail};
 use st_types::{Boxed, StType};

@@ -5,8 +5,8 @@ ghost use Rattle.st_tree.specs.Expression.{Int, expression_of, tail_of, tails_of
 ghost use Rattle.st_rules.specs.Kinds as kinds;
 ghost use Rattle.st_rules.specs.Expressions as expressions;
 
-use check_calls::st_operators::is_arithmetic;
 use plc_text::Text;
+use st_operators::is_arithmetic;
 use st_tree::{Expr, Tail};
 
 /// Whether it is an int, or an arithmetic operation over what is untyped.

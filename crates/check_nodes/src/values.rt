@@ -5,13 +5,13 @@ ghost use Rattle.st_tree.specs.Expression as tree;
 ghost use Rattle.st_rules.specs.Faults.{least};
 ghost use Rattle.st_rules.specs.Scope.{type_qualifier};
 ghost use Rattle.st_rules.specs.Expressions as expressions;
-ghost use Rattle.check_calls.specs.Meant.{qualifier};
+ghost use Rattle.name_resolution.specs.Meant.{qualifier};
 ghost use Rattle.check_nodes.specs.Found.{Finds};
 ghost use Rattle.check_nodes.specs.Private.Values as own;
 
 use crate::found::Checked;
-use check_calls::check_places::note;
-use check_calls::name_resolution::{Qualifier, Scope};
+use check_places::note;
+use name_resolution::{Qualifier, Scope};
 use plc_text::{Code, NoMemory, Text};
 use st_rules::{at, when};
 use st_tree::{Expr, Target};

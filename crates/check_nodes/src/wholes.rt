@@ -5,16 +5,16 @@ ghost use Rattle.st_tree.specs.Expression.{selectors_of};
 ghost use Rattle.st_rules.specs.Faults.{least};
 ghost use Rattle.st_rules.specs.Places as places;
 ghost use Rattle.st_rules.specs.Expressions as expressions;
-ghost use Rattle.check_calls.specs.Standing.{standing};
+ghost use Rattle.check_places.specs.Standing.{standing};
 ghost use Rattle.check_nodes.specs.Wholes.{root_part, Begins, Wholes, Refers};
 
 use crate::along::Along;
 use crate::found::{Checked, noted};
 use check_calls::called_root_fault;
-use check_calls::check_places::{
+use check_places::{
     Standing, note_of, placed, root_fault, root_line, standing_type, whole_fault, whole_target,
 };
-use check_calls::name_resolution::Scope;
+use name_resolution::Scope;
 use plc_text::{Code, NoMemory};
 use st_rules::{at, earlier, when};
 use st_tree::{Expr, Note, Place, Root, Selector};

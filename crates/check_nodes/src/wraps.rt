@@ -4,8 +4,8 @@ ghost use Rattle.std.specs.Prelude.{IfOk};
 ghost use Rattle.check_nodes.specs.Wraps.{Encloses, Denies, Negates};
 
 use crate::found::{Checked, noted};
-use check_calls::st_operators::{negated_fault, negated_type, noted_fault, noted_type};
 use plc_text::NoMemory;
+use st_operators::{negated_fault, negated_type, noted_fault, noted_type};
 use st_rules::earlier;
 use st_tree::Expr;
 use st_types::Boxed;

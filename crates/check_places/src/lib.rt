@@ -15,8 +15,6 @@ mod standing;
 
 pub use conversion::conversion_named;
 pub use fixed::{is_fixed, target_fault};
-pub use name_resolution;
-pub use name_resolution::iface_tables;
 pub use notes::{
     meant_target, note, note_of, part_note, standing_note, typed_root, value_target, whole_target,
 };
@@ -24,5 +22,4 @@ pub use parts::part_of;
 pub use places::{placed, root_standing, selected};
 pub use roots::{is_last, root_fault, root_line, selectors_fault, whole_fault};
 pub use selectors::selector_fault;
-pub use st_operators;
 pub use standing::{Part, Standing, standing_type};

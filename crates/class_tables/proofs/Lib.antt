@@ -11,4 +11,3 @@ pub mod TableLaws
 pub mod SlotLaws
 pub mod BrokenLaws
 pub mod OpenLaws
-pub use Rattle.class_rows.proofs.RowLaws

@@ -3,6 +3,4 @@
 mod parts;
 mod places;
 
-pub use check_places;
-pub use check_places::{iface_tables, name_resolution};
 pub use parts::constant_part_fault;

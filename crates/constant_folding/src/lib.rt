@@ -5,8 +5,6 @@ pub mod constant_rules;
 pub mod constant_values;
 pub mod told_expressions;
 
-pub use check_places;
-pub use check_places::{iface_tables, name_resolution};
 pub use constant_rules::constant_part_fault;
 pub use constant_values::{Outcome, noted_value, value_laws};
 pub use told_expressions::names_are_told;

@@ -2,7 +2,7 @@
 use Rattle.std.proofs.Common.{◌≡◌, ℕ, Bool, true, false, List, [], ◌∷◌, ◌++◌, map, refl, sym, ap, ◌∙◌}
 use Rattle.std.specs.Prelude.{flat_map, filter}
 use Rattle.std.proofs.lemmas.List.Elements.{filter_map-append}
-use Rattle.graph_cycles.specs.Edge.{Edge}
+use Rattle.graph_reach.specs.declared.threads.Edge.{Edge}
 use Rattle.st_tree.specs.declared.declaration.ClassDecl.{ClassDecl}
 use Rattle.st_tree.specs.declared.declaration.FieldGroup.{FieldGroup}
 use Rattle.st_unit_rules.specs.declared_names.Variables.{Written, is_kept_written, sections_written, sections_in}

@@ -5,7 +5,7 @@ use Rattle.std.specs.Bool.{Decides}
 use Rattle.std.proofs.lemmas.Bool.{eqb-true, eq-eqb}
 use Rattle.st_rules.specs.Chains.{is_among}
 use Rattle.st_rules.proofs.Booleans.{false≢true, none≢some, some-same, either, or-first, or-second}
-use Rattle.graph_cycles.specs.Edge.{Edge}
+use Rattle.graph_reach.specs.declared.threads.Edge.{Edge}
 use Rattle.graph_cycles.specs.Graph.{HasEdge, AreEdgesOf, AreWithin}
 use Rattle.declared_graph.specs.Private.Edges.{edge, edges_to, edges_from, out_at}
 

@@ -11,7 +11,7 @@ use Rattle.st_rules.specs.Faults.{earlier, least, when}
 use Rattle.st_rules.proofs.FaultLaws.{least-append}
 use Rattle.st_unit_rules.specs.declared_names.Declarations.{Declaration, declarations}
 use Rattle.st_unit_rules.specs.Cycles.{lies_on_cycle, contained, contained_at, contains_itself, leads_to_cycle, needed, needed_at, needs_itself, cycle_faults}
-use Rattle.graph_cycles.specs.Edge.{Edge}
+use Rattle.graph_reach.specs.declared.threads.Edge.{Edge}
 use Rattle.graph_cycles.specs.Graph.{AreEdgesOf, AreWithin, LiesOnCycle, LeadsToCycle, marked}
 use Rattle.st_unit_rules.specs.declared.declaration_list.listed.Declared.{Declared}
 use Rattle.st_unit_rules.specs.declaration_list.Listed.{declared_as}

@@ -16,7 +16,7 @@ use Rattle.st_rules.proofs.ListLaws.{drop-at, drop-end}
 use Rattle.st_unit_rules.specs.declared_names.Variables.{Written, sections_written}
 use Rattle.st_unit_rules.specs.declared_names.Declarations.{item_line}
 use Rattle.st_unit_rules.specs.Cycles.{Named, alone, before_dot, before_hash, named_in_bounds, named_in_value, inner_from, inner_place, inner_for, inner_needed, inner_cycles, lies_on_cycle}
-use Rattle.graph_cycles.specs.Edge.{Edge}
+use Rattle.graph_reach.specs.declared.threads.Edge.{Edge}
 use Rattle.graph_cycles.specs.Graph.{AreWithin, marked}
 use Rattle.st_unit_rules.specs.declared.declaration_list.written.WrittenName.{WrittenName}
 use Rattle.st_unit_rules.specs.declaration_list.Written.{global_of, written_of, names_in_sections}

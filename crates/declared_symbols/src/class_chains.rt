@@ -6,4 +6,3 @@ mod chains;
 
 pub use cells::Cell;
 pub use chains::ClassChains;
-pub use class_tables;

@@ -4,5 +4,3 @@
 pub mod class_chains;
 pub mod unit_untold;
 pub mod untold_names;
-
-pub use class_tables;

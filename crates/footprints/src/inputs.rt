@@ -7,7 +7,7 @@ ghost use Rattle.st_values.specs.Program as plain;
 ghost use Rattle.st_values.specs.View.{program_of, region_of};
 ghost use Rattle.footprints.specs.Private.Inputs as words;
 
-use crate::reached_routines::call_steps::class_of_kind;
+use call_steps::class_of_kind;
 use plc_text::{Items, NoMemory, Text};
 use program_tables::{Members, Variable, members_of};
 use st_tree::{Area, Program, RegionDecl, area_of};

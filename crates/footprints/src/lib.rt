@@ -9,6 +9,4 @@ pub mod reached_routines;
 mod tables;
 mod walk;
 
-pub use body_uses;
-pub use body_uses::call_steps;
 pub use footprints::{Footprints, footprint, writes};

@@ -6,7 +6,5 @@ mod found;
 mod search;
 mod slots;
 
-pub use body_uses;
-pub use body_uses::call_steps;
 pub use conformers::{Conformers, Family, family_of};
 pub use search::{programs_of, reached_routines};

@@ -3,16 +3,16 @@
 ghost use Rattle.std.specs.Prelude.{◌≡◌, ℕ, true, option_map, IfOk, OnOk};
 ghost use Rattle.st_values.specs.View.{program_of};
 ghost use Rattle.st_meaning.specs.Enter.{programs_of};
-ghost use Rattle.footprints.specs.reached_routines.Uses.{use_of, uses_of, owner_of, Knows};
+ghost use Rattle.body_uses.specs.Uses.{use_of, uses_of, owner_of, Knows};
 ghost use Rattle.footprints.specs.Private.Puts.{Puts, Via};
 ghost use Rattle.footprints.specs.Private.Holders.{Held};
 ghost use Rattle.footprints.specs.Private.Tables.{AreTables};
 ghost use Rattle.footprints.specs.Private.Walk as words;
 
 use crate::marks::{Marks, put, put_all, put_classes};
-use crate::reached_routines::body_uses::{Callables, Owner, Use, body_uses};
 use crate::reached_routines::{Family, family_of, programs_of, reached_routines};
 use crate::tables::Tables;
+use body_uses::{Callables, Owner, Use, body_uses};
 use plc_text::NoMemory;
 use program_tables::RoutineId;
 use st_types::StType;

@@ -4,7 +4,7 @@ use Rattle.st_tree.specs.declared.declaration.Prototype.{Prototype}
 use Rattle.st_tree.specs.declared.unit.Decl.{Decl}
 use Rattle.st_rules.specs.Interfaces.{interfaces_in, prototype_names}
 use Rattle.st_rules.proofs.ListLaws.{take-at, take-end}
-use Rattle.class_tables.proofs.RowLaws.{interfaces-next}
+use Rattle.class_rows.proofs.RowLaws.{interfaces-next}
 
 pub no_more : {X : Type 0} (xs : List X) → xs ≡ xs ++ []
 no_more xs = sym (append-nil xs)

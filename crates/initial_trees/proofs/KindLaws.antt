@@ -8,7 +8,7 @@ use Rattle.st_tree.specs.declared.program.Note.{Note}
 use Rattle.st_tree.specs.declared.program.Program.{Program as CheckedProgram}
 use Rattle.st_values.specs.Program.{class_at}
 use Rattle.st_values.specs.View.{program_of, programs_from, interfaces_from}
-use Rattle.program_tables.proofs.st_initial.ClassLaws.{within_get, class_is_there, program_at}
+use Rattle.program_tables.proofs.ClassLaws.{within_get, class_is_there, program_at}
 
 names_of_programs : (c k : ℕ) (ds : List (ProgramDecl Note)) → option_map (λ k. k.name) (slice_get (programs_from c ds) k) ≡ option_map (λ d. d.name.text) (slice_get ds k)
 names_of_programs c k [] = refl

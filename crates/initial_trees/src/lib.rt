@@ -6,6 +6,5 @@ mod kinds;
 mod store;
 mod trees;
 
-pub use program_tables;
 pub use store::initial_store;
 pub use trees::{initial_value, value_of_region};

@@ -12,7 +12,6 @@ mod tables;
 mod telling;
 mod unit_tables;
 
-pub use iface_tables;
 pub use places::Places;
 pub use scope::{Meant, Qualifier, Scope, local_places};
 pub use tables::NameTables;

@@ -3,4 +3,3 @@ pub mod GivenLaws
 pub mod TableLaws
 pub mod NumberLaws
 pub mod WalkLaws
-pub use Rattle.program_tables.proofs.ClassLaws

@@ -19,7 +19,7 @@ use Rattle.st_meaning.specs.Statement.{effect}
 use Rattle.run_state.specs.declared.state.Stop.{Stop}
 use Rattle.run_state.specs.declared.state.Stop.TheVariants as stop
 use Rattle.run_state.specs.State.{Agrees, Shows}
-use Rattle.reference_values.specs.Found.{class_there}
+use Rattle.call_steps.specs.Found.{class_there}
 use Rattle.reference_bodies.specs.declared.flow.Flow.{Flow as CodeFlow}
 use Rattle.reference_bodies.specs.Flow.{flow_of}
 use Rattle.reference_bodies.specs.Private.Attempted.{attempted}

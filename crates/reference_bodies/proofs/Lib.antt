@@ -4,4 +4,3 @@ pub mod Falling
 pub mod ListLaws
 pub mod LoopLaws
 pub mod TurnSteps
-pub use Rattle.reference_values.proofs.LoopSteps

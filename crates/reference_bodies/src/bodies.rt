@@ -19,12 +19,12 @@ ghost use Rattle.reference_bodies.specs.Private.Turns.{case_number, condition, c
 use crate::counting::{add_step, begin, is_within};
 use crate::flow::{Flow, end_of, ended, goes_on, is_end};
 use crate::steps::{attempted, no_zero};
+use call_frames::Given;
 use plc_text::Series;
 use program_tables::RoutineId;
 use reference_values::Walk;
-use reference_values::call_frames::Given;
-use reference_values::run_steps::{elem_of, hold, is_true, number_in};
 use run_state::{Frame, RunState, Stop, put, spend};
+use run_steps::{elem_of, hold, is_true, number_in};
 use st_tree::{Argument, Branch, Case, Expr, Note, Otherwise, Path, Place, Stmt};
 use st_types::StType;
 use value_trees::Value;

@@ -14,8 +14,8 @@ ghost use Rattle.reference_bodies.specs.Private.Turns.{begins, is_within};
 
 use crate::flow::Flow;
 use plc_text::NoMemory;
-use reference_values::run_steps::{named_spot, number_in, operate};
 use run_state::{RunState, Stop, load, put};
+use run_steps::{named_spot, number_in, operate};
 use st_tree::{Operator, Target};
 use st_types::Elem;
 use std::alloc::Global;

@@ -8,5 +8,3 @@ mod steps;
 
 pub use bodies::Bodies;
 pub use flow::Flow;
-pub use reference_values;
-pub use reference_values::{call_frames, call_steps, routine_tables};

@@ -9,11 +9,11 @@ ghost use Rattle.run_state.specs.State.{Agrees, Shows, state_of};
 ghost use Rattle.value_trees.specs.Value.{value_of};
 ghost use Rattle.reference_bodies.specs.Private.Attempted.{attempted, kept_if};
 
+use call_steps::instance_class;
 use plc_text::{FaultKind, NoMemory};
 use program_tables::ProgramTables;
-use reference_values::call_steps::instance_class;
-use reference_values::run_steps::path_in;
 use run_state::{RunState, Spot, Stop, fault};
+use run_steps::path_in;
 use st_tree::Path;
 use st_types::StType;
 use std::alloc::Global;

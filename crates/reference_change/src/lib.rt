@@ -7,4 +7,3 @@ mod phases;
 mod turn;
 
 pub use changed::{Changed, change};
-pub use reference_hooks;

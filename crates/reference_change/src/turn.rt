@@ -1,7 +1,7 @@
 //! What the phases of a change look into.
 
-use change_carry::change_names::Change;
-use reference_hooks::reference_tasks::Loaded;
+use change_names::Change;
+use reference_tasks::Loaded;
 
 /// A change, which regions of the new program are kept, and both programs with the tables with which they are run.
 #[derive(Clone, Copy)]

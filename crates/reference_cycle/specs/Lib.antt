@@ -1,3 +1,1 @@
 pub mod Cycle
-pub use Rattle.reference_tasks.specs.Loaded
-pub use Rattle.process_image.specs.Located

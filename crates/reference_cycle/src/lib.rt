@@ -6,5 +6,3 @@ mod ended;
 
 pub use cycles::cycle;
 pub use ended::Ended;
-pub use process_image;
-pub use reference_tasks;

@@ -11,8 +11,8 @@ use Rattle.st_meaning.specs.Call.{given_value}
 use Rattle.st_meaning.specs.Enter.{most_calls}
 use Rattle.st_meaning.specs.Operation.{truth}
 use Rattle.st_change.specs.Hook.{Hook, When, hook_name, hooks_along, first_only, given_flags, Ran, ran, stopped, go_on, hooked, class_name, run_hook, run_hooks}
-use Rattle.reference_tasks.specs.Given.{Given as CodeGiven}
-use Rattle.reference_tasks.specs.Opening.{given_of}
+use Rattle.call_frames.specs.declared.slots.Given.{Given as CodeGiven}
+use Rattle.call_frames.specs.Opening.{given_of}
 use Rattle.routine_tables.specs.declared.parameters.Parameter.{Parameter as CodeParameter}
 use Rattle.routine_tables.specs.Parameters.{parameters_of, recipient_of}
 use Rattle.run_state.specs.declared.state.RunState.{RunState}

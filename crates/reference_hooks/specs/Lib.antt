@@ -1,4 +1,3 @@
 pub mod Hooks
 pub mod Private
 pub mod Tables
-pub use Rattle.reference_tasks.specs.Loaded

@@ -4,13 +4,13 @@ ghost use Rattle.std.specs.Prelude.{◌≡◌, ◌++◌, ◌∷◌, [], IfOk, On
 ghost use Rattle.st_meaning.specs.Call as calls;
 ghost use Rattle.st_meaning.specs.Operation.{truth};
 ghost use Rattle.st_change.specs.Hook as words;
-ghost use Rattle.reference_tasks.specs.Opening.{given_of};
+ghost use Rattle.call_frames.specs.Opening.{given_of};
 ghost use Rattle.routine_tables.specs.Parameters.{parameters_of, recipient_of};
 ghost use Rattle.value_trees.specs.Value.{value_of};
 
+use call_frames::Given;
+use call_steps::given_value;
 use plc_text::{NoMemory, Series};
-use reference_tasks::call_frames::Given;
-use reference_tasks::call_steps::given_value;
 use routine_tables::{Parameter, Recipient};
 use std::alloc::Global;
 use value_trees::Value;

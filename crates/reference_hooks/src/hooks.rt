@@ -4,7 +4,7 @@ ghost use Rattle.std.specs.Prelude.{◌≡◌, ◌∷◌, [], Some, map};
 ghost use Rattle.st_change.specs.Hook as words;
 ghost use Rattle.st_values.specs.View.{program_of};
 ghost use Rattle.program_tables.specs.Routine.{routine_of};
-ghost use Rattle.reference_tasks.specs.Opening.{given_of};
+ghost use Rattle.call_frames.specs.Opening.{given_of};
 ghost use Rattle.run_state.specs.State.{Shows, frame_of, state_of};
 ghost use Rattle.value_trees.specs.Value as trees;
 ghost use Rattle.reference_tasks.specs.Loaded.{IsLoaded};

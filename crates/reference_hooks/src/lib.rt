@@ -8,5 +8,4 @@ mod tables;
 
 pub use chains::{run_exit, run_init, run_reinit};
 pub use hooks::{Halt, Instance, Stopped};
-pub use reference_tasks;
 pub use tables::HookTables;

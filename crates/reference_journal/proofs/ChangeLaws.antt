@@ -20,7 +20,7 @@ use Rattle.region_instances.specs.Instances.{RegionsUnfold}
 use Rattle.reference_change.specs.Changed.{changed}
 use Rattle.reference_change.specs.declared.changed.Changed.{Changed}
 use Rattle.reference_change.specs.declared.changed.Changed.TheVariants as came
-use Rattle.reference_change.specs.Stopped.{Stopped}
+use Rattle.reference_hooks.specs.declared.hooks.Stopped.{Stopped}
 use Rattle.reference_plays.specs.declared.controller.Controller.{Controller as CodeController}
 use Rattle.value_trees.specs.Value.{members_of}
 use Rattle.value_trees.specs.declared.value.Member.{Member}

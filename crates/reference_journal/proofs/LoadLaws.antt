@@ -12,8 +12,8 @@ use Rattle.st_change.specs.Change.{start}
 use Rattle.st_change.specs.OneThread.{hook_refusal}
 use Rattle.region_instances.specs.Instances.{RegionsUnfold}
 use Rattle.routine_tables.specs.Tables.{Holds}
-use Rattle.reference_start.specs.Loaded.{IsLoaded}
-use Rattle.reference_start.specs.LoadedProgram.{Loaded}
+use Rattle.reference_tasks.specs.Loaded.{IsLoaded}
+use Rattle.reference_tasks.specs.declared.loaded.Loaded.{Loaded}
 use Rattle.reference_start.specs.Start.{started}
 use Rattle.reference_start.specs.declared.hooks.Stopped.{Stopped}
 use Rattle.reference_start.specs.declared.started.Started.{Started}

@@ -5,8 +5,8 @@ use Rattle.st_meaning.specs.ProcessImage.{located_of}
 use Rattle.st_meaning.specs.st_frame.Footprint.{IsFootprint}
 use Rattle.st_change.specs.OneThread.{Controller}
 use Rattle.value_trees.specs.Value.{members_of}
-use Rattle.reference_cycle.specs.Located.{all_seen}
-use Rattle.reference_cycle.specs.Loaded.{IsLoaded}
+use Rattle.process_image.specs.Located.{all_seen}
+use Rattle.reference_tasks.specs.Loaded.{IsLoaded}
 use Rattle.reference_plays.specs.declared.controller.Controller.{Controller as CodeController}
 use Rattle.reference_plays.specs.declared.controller.Gone.{Gone}
 use Rattle.reference_plays.specs.declared.controller.Plan.{Plan}

@@ -1,8 +1,8 @@
 //! What a controller runs, and what it holds between plays.
 
 use plc_text::{Series, Text};
-use reference_cycle::process_image::Located;
-use reference_cycle::reference_tasks::Loaded;
+use process_image::Located;
+use reference_tasks::Loaded;
 use value_trees::Member;
 
 /// A program with its tables, its variables with addresses, and for each of its tasks the regions of the footprint.

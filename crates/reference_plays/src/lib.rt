@@ -9,4 +9,3 @@ mod plays;
 pub use controller::{Controller, Gone, Plan};
 pub use gone::gone_behind;
 pub use plays::{play_cycle, play_reset};
-pub use reference_cycle::process_image;

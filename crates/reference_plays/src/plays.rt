@@ -7,7 +7,7 @@ ghost use Rattle.cycle_journal.specs.declared.play.Play.TheVariants as play;
 ghost use Rattle.st_change.specs.OneThread as words;
 ghost use Rattle.st_change.specs.OneThread.{One};
 ghost use Rattle.st_values.specs.View.{program_of};
-ghost use Rattle.reference_cycle.specs.Loaded.{IsLoaded};
+ghost use Rattle.reference_tasks.specs.Loaded.{IsLoaded};
 ghost use Rattle.reference_plays.specs.Controller.{IsPlan, controller_of};
 ghost use Rattle.reference_plays.specs.Private.Ran.{HasRun};
 
@@ -16,7 +16,7 @@ use crate::held::{is_held, is_same, release, settle, since};
 use cycle_journal::Answer;
 use plc_text::{NoMemory, Series, Text, narrowed};
 use reference_cycle::cycle;
-use reference_cycle::reference_tasks::Loaded;
+use reference_tasks::Loaded;
 use st_change::Judge;
 use st_tree::TaskDecl;
 use std::alloc::Global;

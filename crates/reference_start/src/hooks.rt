@@ -19,9 +19,9 @@ ghost use Rattle.reference_start.specs.Private.Instances.{all_of, instance_of};
 
 use crate::instances::Instance;
 use call_frames::Given;
+use call_steps::given_value;
 use plc_text::{Fault, NoMemory, Series, Text, narrowed};
 use program_tables::{RoutineId, line, name};
-use reference_tasks::call_steps::given_value;
 use reference_tasks::{Loaded, enter};
 use routine_tables::{Parameter, Recipient};
 use run_state::{Frame, Log, RunState, Stop, spend};

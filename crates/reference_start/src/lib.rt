@@ -6,5 +6,4 @@ mod instances;
 mod started;
 
 pub use hooks::Stopped;
-pub use reference_tasks;
 pub use started::{Started, start};

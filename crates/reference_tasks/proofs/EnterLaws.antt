@@ -8,7 +8,7 @@ use Rattle.st_meaning.specs.Call as calls
 use Rattle.st_meaning.specs.Enter.{enter}
 use Rattle.st_meaning.specs.Loop.{Flow}
 use Rattle.st_meaning.specs.Statement.{effects}
-use Rattle.reference_bodies.specs.Opening.{opened}
+use Rattle.call_frames.specs.Opening.{opened}
 
 one_by_one : {A B C : Type 0} (o : Outcome A) (f : A → State → Outcome B) (g : B → State → Outcome C) → go_on (go_on o f) g ≡ go_on o (λ a s. go_on (f a s) g)
 one_by_one (Done a s) f g = refl

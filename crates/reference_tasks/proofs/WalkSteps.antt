@@ -4,14 +4,14 @@ use denote.Ref.{MutBor}
 use Rattle.st_tree.specs.declared.path.Path.{Path}
 use Rattle.st_tree.specs.declared.program.Program.{Program}
 use Rattle.program_tables.specs.declared.routine.RoutineId.{RoutineId}
-use Rattle.reference_bodies.specs.RoutineTables.{RoutineTables}
-use Rattle.reference_bodies.specs.Tables.{Holds}
-use Rattle.reference_bodies.specs.Given.{Given}
+use Rattle.routine_tables.specs.declared.tables.RoutineTables.{RoutineTables}
+use Rattle.routine_tables.specs.Tables.{Holds}
+use Rattle.call_frames.specs.declared.slots.Given.{Given}
 use Rattle.run_state.specs.declared.state.Frame.{Frame}
 use Rattle.run_state.specs.declared.state.RunState.{RunState}
 use Rattle.run_state.specs.declared.state.Stop.{Stop}
 use Rattle.reference_tasks.specs.Private.Entered.{Entered}
-use Rattle.reference_bodies.specs.Walks.{Walks}
+use Rattle.reference_values.specs.Walks.{Walks}
 
 module _ (p : Program) (routines : RoutineTables) (room : ℕ)
     (pre : MutBor RunState → RoutineId → Option Path → List Given → ℕ → Type 0)

@@ -2,7 +2,7 @@
 use Rattle.std.specs.Prelude.{◌≡◌}
 use Rattle.st_values.specs.View.{program_of}
 use Rattle.program_tables.specs.st_initial.Members as members
-use Rattle.reference_bodies.specs.Tables.{Holds}
+use Rattle.routine_tables.specs.Tables.{Holds}
 use Rattle.reference_tasks.specs.declared.loaded.Loaded.{Loaded}
 
 -- the tables are those of the program

@@ -5,19 +5,19 @@ ghost use Rattle.st_tree.specs.Statement.{statements_of};
 ghost use Rattle.st_meaning.specs.Enter as words;
 ghost use Rattle.st_values.specs.View.{program_of};
 ghost use Rattle.program_tables.specs.Routine.{routine_of};
-ghost use Rattle.reference_bodies.specs.Opening.{given_of, opened};
+ghost use Rattle.call_frames.specs.Opening.{given_of, opened};
 ghost use Rattle.run_state.specs.State.{Agrees, Keeps, Shows, base_of, frame_of, state_of};
-ghost use Rattle.reference_bodies.specs.Walks.{Walks};
+ghost use Rattle.reference_values.specs.Walks.{Walks};
 ghost use Rattle.reference_tasks.specs.Loaded.{IsLoaded};
 ghost use Rattle.reference_tasks.specs.Private.Entered.{Entered};
 ghost use Rattle.reference_tasks.specs.Private.Programs.{body_run};
 
 use crate::loaded::Loaded;
+use call_frames::{Given, open};
 use plc_text::{FaultKind, Series};
 use program_tables::{RoutineId, statements};
 use reference_bodies::Bodies;
-use reference_bodies::call_frames::{Given, open};
-use reference_bodies::reference_values::Walk;
+use reference_values::Walk;
 use run_state::{Frame, RunState, Stop, fault, pop};
 use st_tree::{Note, Path, Stmt};
 

@@ -7,5 +7,4 @@ mod tasks;
 
 pub use entering::enter;
 pub use loaded::Loaded;
-pub use reference_bodies::{call_frames, call_steps};
 pub use tasks::run_task;

@@ -1,7 +1,7 @@
 //! A program with its tables.
 
 use program_tables::{Members, ProgramTables};
-use reference_bodies::routine_tables::RoutineTables;
+use routine_tables::RoutineTables;
 use st_tree::Program;
 use std::alloc::Global;
 

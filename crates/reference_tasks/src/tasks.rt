@@ -10,9 +10,9 @@ ghost use Rattle.reference_tasks.specs.Private.Programs.{in_order, one_program};
 
 use crate::entering::enter;
 use crate::loaded::Loaded;
+use call_steps::class_of_kind;
 use plc_text::{FaultKind, Series};
 use program_tables::RoutineId;
-use reference_bodies::call_steps::class_of_kind;
 use run_state::{RunState, Stop, fault};
 use st_tree::{Path, Steps};
 

@@ -14,8 +14,8 @@ use Rattle.st_values.specs.Value.{Value}
 use Rattle.st_meaning.specs.State.{Spot, Frame, State, Outcome, Done, go_on}
 use Rattle.st_meaning.specs.Place.{element_kind}
 use Rattle.st_meaning.specs.Call.{Given, Enter}
-use Rattle.call_steps.specs.Given.{Given as CodeGiven}
-use Rattle.call_steps.specs.Opening.{given_of}
+use Rattle.call_frames.specs.declared.slots.Given.{Given as CodeGiven}
+use Rattle.call_frames.specs.Opening.{given_of}
 use Rattle.st_meaning.specs.Expression.{selector_note, value, along, selected, indexed, chained, operated, arguments, outputs}
 use Rattle.run_state.specs.declared.state.Stop.{Stop}
 use Rattle.run_state.specs.declared.state.Stop.TheVariants as stop

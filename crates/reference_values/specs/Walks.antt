@@ -7,10 +7,10 @@ use Rattle.st_values.specs.View.{program_of}
 use Rattle.st_meaning.specs.Enter.{enter}
 use Rattle.program_tables.specs.declared.routine.RoutineId.{RoutineId}
 use Rattle.program_tables.specs.Routine.{routine_of}
-use Rattle.call_steps.specs.RoutineTables.{RoutineTables}
-use Rattle.call_steps.specs.Tables.{Holds}
-use Rattle.call_steps.specs.Given.{Given}
-use Rattle.call_steps.specs.Opening.{given_of}
+use Rattle.routine_tables.specs.declared.tables.RoutineTables.{RoutineTables}
+use Rattle.routine_tables.specs.Tables.{Holds}
+use Rattle.call_frames.specs.declared.slots.Given.{Given}
+use Rattle.call_frames.specs.Opening.{given_of}
 use Rattle.run_state.specs.declared.state.Frame.{Frame}
 use Rattle.run_state.specs.declared.state.RunState.{RunState}
 use Rattle.run_state.specs.declared.state.Stop.{Stop}

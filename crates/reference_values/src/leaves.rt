@@ -10,9 +10,9 @@ ghost use Rattle.st_values.specs.Value.{number, reference};
 ghost use Rattle.run_state.specs.State.{spot_of};
 ghost use Rattle.value_trees.specs.Value.{value_of};
 
-use call_steps::run_steps::literal_value;
 use plc_text::{NoMemory, Text};
 use run_state::{Spot, path_of};
+use run_steps::literal_value;
 use st_tree::{Literal, Target, milliseconds, number_of};
 use value_trees::Value;
 

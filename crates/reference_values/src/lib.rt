@@ -6,6 +6,4 @@ mod steps;
 mod values;
 mod walk;
 
-pub use call_steps;
-pub use call_steps::{call_frames, routine_tables, run_steps};
 pub use walk::Walk;

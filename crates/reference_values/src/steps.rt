@@ -4,20 +4,20 @@ ghost use Rattle.std.specs.Prelude.{◌≡◌, IfOk, OnOk, Some, map, option_map
 ghost use Rattle.st_tree.specs.Expression.{argument_of, selector_of};
 ghost use Rattle.st_meaning.specs.Expression as expressions;
 ghost use Rattle.st_meaning.specs.Place.{root_note};
-ghost use Rattle.call_steps.specs.Opening.{given_of};
+ghost use Rattle.call_frames.specs.Opening.{given_of};
 ghost use Rattle.call_steps.specs.Callee.{callee_seen};
-ghost use Rattle.call_steps.specs.Parameters.{parameters_of};
+ghost use Rattle.routine_tables.specs.Parameters.{parameters_of};
 ghost use Rattle.run_state.specs.State.{Shows, spot_of, state_of};
 ghost use Rattle.value_trees.specs.Value.{value_of};
 ghost use Rattle.reference_values.specs.Private.Parts.{added, element_of, is_conversion, left_behind};
 
-use call_steps::call_frames::Given;
-use call_steps::routine_tables::Parameter;
-use call_steps::run_steps::{index_in, number_in};
+use call_frames::Given;
 use call_steps::{Callee, Found, behind_next};
 use plc_text::{FaultKind, NoMemory, Series};
 use program_tables::RoutineId;
+use routine_tables::Parameter;
 use run_state::{RunState, Spot, Stop, fault, into_part};
+use run_steps::{index_in, number_in};
 use st_tree::{Argument, Note, Path, Root, Selector, Step};
 use st_types::StType;
 use std::alloc::Global;

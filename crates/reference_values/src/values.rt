@@ -6,9 +6,9 @@ ghost use Rattle.st_meaning.specs.Enter.{enter};
 ghost use Rattle.st_meaning.specs.Expression as words;
 ghost use Rattle.st_values.specs.View.{program_of};
 ghost use Rattle.program_tables.specs.Routine.{routine_of};
-ghost use Rattle.call_steps.specs.Opening.{given_of};
+ghost use Rattle.call_frames.specs.Opening.{given_of};
 ghost use Rattle.call_steps.specs.Callee.{callee_seen};
-ghost use Rattle.call_steps.specs.Parameters.{parameter_of, parameters_of};
+ghost use Rattle.routine_tables.specs.Parameters.{parameter_of, parameters_of};
 ghost use Rattle.run_state.specs.State.{Agrees, Keeps, Shows, base_of, frame_of, spot_of, state_of};
 ghost use Rattle.value_trees.specs.Value.{value_of};
 ghost use Rattle.reference_values.specs.Called.{called_effect, written};
@@ -21,19 +21,19 @@ use crate::steps::{
     selector_note,
 };
 use crate::walk::Walk;
-use call_steps::call_frames::{Given, left_in_local};
-use call_steps::routine_tables::Parameter;
-use call_steps::run_steps::{
-    complemented, elem_of, element_kind, followed, is_decided, negated, operate, part_named,
-    place_value, root_spot,
-};
+use call_frames::{Given, left_in_local};
 use call_steps::{
     Callee, Search, base_body, body_on, callee_of, converted_value, function_of, given_place,
     given_value, is_in_out, method_on, next_parameter, output_left, parameter_named, same_in_outs,
 };
 use plc_text::{FaultKind, NoMemory, Series};
 use program_tables::RoutineId;
+use routine_tables::Parameter;
 use run_state::{Frame, RunState, Spot, Stop, fault, put, spend};
+use run_steps::{
+    complemented, elem_of, element_kind, followed, is_decided, negated, operate, part_named,
+    place_value, root_spot,
+};
 use st_tree::{Argument, Expr, Note, Path, Place, Selector, Tail, Target};
 use st_types::StType;
 use value_trees::Value;

@@ -4,8 +4,8 @@ use Rattle.std.specs.Prelude.{slice_get, slice_set, map, option_map, is_some, On
 use Rattle.std.proofs.lemmas.List.{map-set}
 use Rattle.st_tree.specs.declared.path.Step.{Step}
 use Rattle.st_tree.specs.declared.path.Path.{Path}
-use Rattle.value_trees.specs.PlainValue.{Value, Store, Members, member, with_member, at, put, value_at, value_with, ◌>>=◌ as ◌>>?◌}
-use Rattle.value_trees.proofs.ValueLaws.{store_laws}
+use Rattle.st_values.specs.Value.{Value, Store, Members, member, with_member, at, put, value_at, value_with, ◌>>=◌ as ◌>>?◌}
+use Rattle.st_values.proofs.ValueLaws.{store_laws}
 use Rattle.st_meaning.specs.ProcessImage.{or_same}
 use Rattle.st_meaning.specs.State.{Spot, in_store, in_frame, holds, State, Done, there, read, write, held_in, held_by, frame_at, frame_value, frames_with, with_local, ◌>>=◌}
 use Rattle.value_trees.specs.declared.value.Value.{Value as CodeValue}

@@ -1,6 +1,6 @@
 -- What stands at a spot, and what is put there, as the meaning's steps read and write it.
 use Rattle.std.specs.Prelude.{Option, Some, option_map}
-use Rattle.value_trees.specs.PlainValue.{Value, at, put, value_at, value_with, ◌>>=◌ as ◌>>?◌}
+use Rattle.st_values.specs.Value.{Value, at, put, value_at, value_with, ◌>>=◌ as ◌>>?◌}
 use Rattle.st_meaning.specs.State.{Spot, in_store, in_frame, State, frame_at, frame_value, with_local}
 
 abbrev pub spot_value : State → Spot → Option Value

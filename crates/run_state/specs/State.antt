@@ -1,6 +1,6 @@
 -- The code's state of a run as the meaning's, and when a step of the code agrees with one of the meaning.
 use Rattle.std.specs.Prelude.{◌≡◌, List, [], ◌∷◌, map, Option, Some, None, Result, Ok, Err}
-use Rattle.value_trees.specs.PlainValue.{Store, put}
+use Rattle.st_values.specs.Value.{Store, put}
 use Rattle.st_meaning.specs.ProcessImage.{or_same}
 use Rattle.st_meaning.specs.State.{Spot, in_store, in_frame, Slot, holds, bound, unbound, Frame, State, Outcome, Done, Fault}
 use Rattle.value_trees.specs.declared.value.Member.{Member}

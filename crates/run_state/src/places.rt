@@ -1,7 +1,7 @@
 //! Spots, and what stands there.
 
 ghost use Rattle.std.specs.Prelude.{◌≡◌, IfOk, option_map};
-ghost use Rattle.value_trees.specs.PlainValue as plain;
+ghost use Rattle.st_values.specs.Value as plain;
 ghost use Rattle.st_meaning.specs.State as run;
 ghost use Rattle.value_trees.specs.Value.{value_of};
 ghost use Rattle.run_state.specs.State.{Shows, slot_of, spot_of, state_of};

@@ -9,7 +9,7 @@ use Rattle.st_types.specs.declared.st_type.StType.TheFolds.{fold-roll-StType}
 use Rattle.st_tree.specs.declared.declaration.ClassDecl.{ClassDecl}
 use Rattle.st_rules.specs.Modifiers.{is_abstract}
 use Rattle.st_rules.specs.Numbered.{passes_if_there}
-use Rattle.check_names.specs.name_spaces.VariableRules.{class_held, is_abstract_class}
+use Rattle.st_unit_rules.specs.VariableRules.{class_held, is_abstract_class}
 use Rattle.section_rules.specs.Variables.{classes_of}
 
 pub held-Elementary : (e : Elem) → class_held (type.Elementary e) ≡ None

@@ -5,8 +5,8 @@ use Rattle.std.specs.Option.{is_some}
 use Rattle.st_tree.specs.declared.declaration.Section.{Section}
 use Rattle.st_rules.specs.Faults.{Faults}
 use Rattle.st_rules.specs.Modifiers.{access_word}
-use Rattle.check_names.specs.name_spaces.NameRules.{word_twice}
-use Rattle.check_names.specs.name_spaces.VariableRules.{Home, may_have_access, section_out_of_place, access_out_of_place}
+use Rattle.st_unit_rules.specs.NameRules.{word_twice}
+use Rattle.st_unit_rules.specs.VariableRules.{Home, may_have_access, section_out_of_place, access_out_of_place}
 
 abbrev pub access_misplaced : Home → Section ℕ → Bool
 access_misplaced h s = list_any (λ m. is_some (access_word m)) s.modifiers && not (may_have_access h s.sort)

@@ -1,5 +1,5 @@
 -- What a section belongs to, as the code tells it.
-use Rattle.check_names.specs.name_spaces.VariableRules as rules
+use Rattle.st_unit_rules.specs.VariableRules as rules
 use Rattle.section_rules.specs.declared.home.Home.{Home}
 use Rattle.section_rules.specs.declared.home.Home.TheVariants as code
 

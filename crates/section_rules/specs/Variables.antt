@@ -6,7 +6,7 @@ use Rattle.st_types.specs.declared.st_type.StType.{StType}
 use Rattle.st_tree.specs.declared.declaration.ClassDecl.{ClassDecl}
 use Rattle.st_tree.specs.declared.declaration.SectionSort.{SectionSort}
 use Rattle.st_tree.specs.Initial.{Initial}
-use Rattle.check_names.specs.name_spaces.VariableRules.{holds_instances_told, makes_instances, is_abstract_class, class_held, is_no_constant_type}
+use Rattle.st_unit_rules.specs.VariableRules.{holds_instances_told, makes_instances, is_abstract_class, class_held, is_no_constant_type}
 
 -- classes, as the code lends them
 abbrev pub classes_of : List (Bor (ClassDecl ℕ)) → List (ClassDecl ℕ)

@@ -3,7 +3,7 @@
 ghost use Rattle.std.specs.Prelude.{◌≡◌, ◌≤◌, nat_eq};
 ghost use Rattle.st_types.specs.Elem as elements;
 ghost use Rattle.st_rules.specs.Faults.{least};
-ghost use Rattle.check_names.specs.name_spaces.VariableRules as rules;
+ghost use Rattle.st_unit_rules.specs.VariableRules as rules;
 ghost use Rattle.section_rules.specs.Addresses.{address_at};
 
 use plc_text::{Code, Text};

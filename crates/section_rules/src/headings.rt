@@ -5,7 +5,7 @@ ghost use Rattle.std.specs.List.{list_any};
 ghost use Rattle.std.specs.Option.{is_some};
 ghost use Rattle.st_rules.specs.Faults.{least};
 ghost use Rattle.st_rules.specs.Modifiers.{access_word};
-ghost use Rattle.check_names.specs.name_spaces.VariableRules as rules;
+ghost use Rattle.st_unit_rules.specs.VariableRules as rules;
 ghost use Rattle.section_rules.specs.Home.{home_of};
 ghost use Rattle.section_rules.specs.Headings.{access_misplaced, heading_faults};
 

@@ -1,7 +1,7 @@
 //! What sections belong to, and what may stand there.
 
 ghost use Rattle.std.specs.Prelude.{◌≡◌};
-ghost use Rattle.check_names.specs.name_spaces.VariableRules as rules;
+ghost use Rattle.st_unit_rules.specs.VariableRules as rules;
 ghost use Rattle.st_tree.specs.declared.declaration.SectionSort.TheVariants as sorts;
 ghost use Rattle.section_rules.specs.Home.{home_of};
 

@@ -3,8 +3,8 @@
 ghost use Rattle.std.specs.Prelude.{◌≡◌, Some, option_and_then, option_map};
 ghost use Rattle.st_tree.specs.Initial.{initial_of};
 ghost use Rattle.st_rules.specs.Faults.{least};
-ghost use Rattle.check_names.specs.name_spaces.Variables as variables;
-ghost use Rattle.check_names.specs.name_spaces.VariableRules as rules;
+ghost use Rattle.st_unit_rules.specs.declared_names.Variables as variables;
+ghost use Rattle.st_unit_rules.specs.VariableRules as rules;
 ghost use Rattle.section_rules.specs.Variables.{classes_of, is_misplaced, makes_abstract, is_bad_constant};
 
 use plc_text::Code;

@@ -22,8 +22,8 @@ use Rattle.st_rules.specs.Scope.{Scope, sought}
 use Rattle.st_rules.specs.Literals.{asked_of}
 use Rattle.st_rules.specs.Expressions.{note, meant_target, type_of, typed}
 use Rattle.st_rules.specs.Statements.{condition_faults, case_selector_faults, labels_faults, for_faults, control_type, control_asked, statements_faults, branches_faults, cases_faults, otherwise_faults, typed_statements, typed_branches, typed_cases}
-use Rattle.st_check_body.specs.st_body_parts.Checked.{Checked}
-use Rattle.st_check_body.specs.st_body_parts.FoundExpression.{Finds}
+use Rattle.check_nodes.specs.declared.found.Checked.{Checked}
+use Rattle.check_nodes.specs.Found.{Finds}
 use Rattle.st_check_body.specs.declared.st_body_parts.found.CheckedStatement.{CheckedStatement}
 use Rattle.st_check_body.specs.declared.st_body_parts.found.CheckedStatements.{CheckedStatements}
 use Rattle.st_check_body.specs.declared.st_body_parts.found.CheckedBranch.{CheckedBranch}

@@ -8,5 +8,3 @@ pub mod ListLaws
 pub mod ControlLaws
 pub mod AssignLaws
 pub mod NameLaws
-pub use Rattle.st_check_expr.proofs.OkLaws
-pub use Rattle.st_check_expr.proofs.WholeLaws

@@ -4,10 +4,9 @@ ghost use Rattle.std.specs.Prelude.{◌≡◌, [], false, IfOk, IfErr};
 ghost use Rattle.st_tree.specs.Statement.{statement_of, statements_of, branches_of, cases_of, otherwise_of};
 ghost use Rattle.st_tree.specs.Statement as plain;
 ghost use Rattle.st_rules.specs.Statements.{body_faults, typed_statements};
-ghost use Rattle.st_check_body.specs.st_body_parts.Broken.{Reports};
+ghost use Rattle.st_check_expr.specs.Broken.{Reports};
 ghost use Rattle.st_check_body.specs.st_body_parts.Found.{StatementFinds, StatementsFind, BranchFinds, BranchesFind, CaseFinds, CasesFind, OtherwiseFinds};
 
-use crate::st_body_parts::st_check_expr::Broken;
 use crate::st_body_parts::{
     CheckedBranch, CheckedBranches, CheckedCase, CheckedCases, CheckedOtherwise, CheckedStatement,
     CheckedStatements, branch_of, case_branch_of, case_of, check_assign, check_attempt, check_call,
@@ -17,6 +16,7 @@ use crate::st_body_parts::{
 };
 use name_resolution::Scope;
 use plc_text::{Items, NoMemory};
+use st_check_expr::Broken;
 use st_rules::Asked;
 use st_tree::{Branch, Case, Note, Otherwise, Stmt};
 use std::alloc::Global;

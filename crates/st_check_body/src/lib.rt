@@ -13,4 +13,3 @@ pub use st_body_parts::{
     empty_of, exit_of, for_of, if_of, no_branch, no_case, no_else, no_statement, repeat_of,
     return_of, while_of, with_branch, with_case, with_statement,
 };
-pub use st_check_expr;

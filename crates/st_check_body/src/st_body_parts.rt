@@ -23,4 +23,3 @@ pub use nodes::{
     no_branch, no_case, no_else, no_statement, repeat_of, return_of, while_of, with_branch,
     with_case, with_statement,
 };
-pub use st_check_expr;

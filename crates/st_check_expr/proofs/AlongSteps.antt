@@ -14,8 +14,8 @@ use Rattle.st_rules.specs.Places as places
 use Rattle.st_rules.specs.Places.{is_last, root_line, root_faults, root_standing, selected, selector_faults, whole_faults, place_type}
 use Rattle.st_rules.specs.Expressions.{note, whole_target, reference_to, reference_to_no_instance, along_faults, typed_root, typed_along, selector_index_faults, typed_selector, standing_note}
 use Rattle.st_rules.proofs.FaultLaws.{earlier-none}
-use Rattle.check_nodes.specs.StandingPlace.{Standing}
-use Rattle.check_nodes.specs.Standing.{standing}
+use Rattle.check_places.specs.declared.standing.Standing.{Standing}
+use Rattle.check_places.specs.Standing.{standing}
 use Rattle.check_nodes.specs.declared.along.Along.{Along}
 use Rattle.check_nodes.specs.declared.along.CheckedSelector.{CheckedSelector}
 use Rattle.check_nodes.specs.declared.found.Checked.{Checked}

@@ -21,8 +21,8 @@ use Rattle.st_rules.specs.Places.{root_line, root_standing, selected, selector_f
 use Rattle.st_rules.specs.Calls.{Matched, callee, heads, is_on_super, asked_by}
 use Rattle.st_rules.specs.Scope.{Scope}
 use Rattle.st_rules.specs.Expressions.{line_of, is_untyped, front_asked, asked_behind, typed_root}
-use Rattle.check_nodes.specs.StandingPlace.{Standing}
-use Rattle.check_nodes.specs.Standing.{standing}
+use Rattle.check_places.specs.declared.standing.Standing.{Standing}
+use Rattle.check_places.specs.Standing.{standing}
 use Rattle.check_nodes.specs.declared.along.Along.{Along}
 use Rattle.check_nodes.specs.declared.along.CheckedSelector.{CheckedSelector}
 use Rattle.check_nodes.specs.declared.calls.Prepared.{Prepared}

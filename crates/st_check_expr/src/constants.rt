@@ -10,10 +10,10 @@ ghost use Rattle.st_check_expr.specs.Constants.{IsConstant};
 ghost use Rattle.st_check_expr.specs.Private.Constants.{number_found, own_least};
 
 use crate::walk::check;
-use check_nodes::check_calls::value_fault;
-use check_nodes::name_resolution::Scope;
+use check_calls::value_fault;
 use check_nodes::{Checked, line_of, operators_fault};
 use constant_folding::{Outcome, constant_part_fault, noted_value};
+use name_resolution::Scope;
 use plc_text::{Code, NoMemory};
 use st_rules::{Asked, at, earlier};
 use st_tree::{Expr, Note};

@@ -8,9 +8,9 @@ ghost use Rattle.st_check_expr.specs.Broken.{Reports};
 
 use crate::broken::Broken;
 use crate::walk::check;
-use check_nodes::check_calls::value_fault;
-use check_nodes::name_resolution::Scope;
+use check_calls::value_fault;
 use check_nodes::{Checked, line_of, operators_fault};
+use name_resolution::Scope;
 use plc_text::NoMemory;
 use st_rules::{Asked, earlier};
 use st_tree::{Expr, Note};

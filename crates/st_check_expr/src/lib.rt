@@ -8,9 +8,6 @@ mod expression;
 mod walk;
 
 pub use broken::Broken;
-pub use check_nodes;
-pub use check_nodes::check_calls;
-pub use constant_folding;
 pub use constants::{Constant, check_constant};
 pub use expression::{check_expr, check_whole};
 pub use walk::{check, check_arguments, check_place};

@@ -4,7 +4,7 @@ ghost use Rattle.std.specs.Prelude.{◌≡◌, ◌&&◌, ◌<◌, ◌+◌, lengt
 ghost use Rattle.st_tree.specs.Expression.{no_tails, expression_of, expressions_of, selector_of, selectors_of, argument_of, arguments_of, tail_of, tails_of, place_of};
 ghost use Rattle.st_tree.specs.Expression as tree;
 ghost use Rattle.st_rules.specs.Places as places;
-ghost use Rattle.check_nodes.specs.Standing.{standing};
+ghost use Rattle.check_places.specs.Standing.{standing};
 ghost use Rattle.check_nodes.specs.Slots.{lent};
 ghost use Rattle.check_nodes.specs.Slots as slot_views;
 ghost use Rattle.check_nodes.specs.Found.{Checks};
@@ -13,11 +13,6 @@ ghost use Rattle.st_check_expr.specs.Private.Rows.{Keeps, StepsAhead, LooksAhead
 ghost use Rattle.st_check_expr.specs.Private.Along.{AlongFinds, AlongGoes, SelectorFinds};
 ghost use Rattle.st_check_expr.specs.Private.Lists.{IndicesFind, ArgumentFinds};
 
-use check_nodes::check_places::{
-    Standing, root_line, root_standing, selected, selector_fault, typed_root,
-};
-use check_nodes::name_resolution::Scope;
-use check_nodes::st_operators::{is_arithmetic, number_asked};
 use check_nodes::{
     Ahead, Along, Arguments, Checked, CheckedArgument, CheckedPlace, CheckedSelector, Indices, Row,
     Slot, as_int, asked_for, asked_nothing, at_root, began, behind, closed, denied, duration,
@@ -27,7 +22,10 @@ use check_nodes::{
     prepare, reference, slot_at, started, to_the_end, truth, typed_literal, whole, with_argument,
     with_index,
 };
+use check_places::{Standing, root_line, root_standing, selected, selector_fault, typed_root};
+use name_resolution::Scope;
 use plc_text::NoMemory;
+use st_operators::{is_arithmetic, number_asked};
 use st_rules::Asked;
 use st_tree::{Argument, Expr, Place, Selector, Tail};
 use std::alloc::Global;

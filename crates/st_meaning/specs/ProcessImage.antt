@@ -11,7 +11,7 @@ use Rattle.st_tree.specs.declared.address.Width.TheVariants as width
 use Rattle.st_tree.specs.declared.path.Step.TheVariants as step
 use Rattle.st_tree.specs.Address.{area_of, width_of, index_of, bit_of}
 use Rattle.st_values.specs.Program.{Variable, Region, Program, class_variables}
-use Rattle.st_values.specs.Chains.{is_among}
+use Rattle.st_rules.specs.Chains.{is_among}
 use Rattle.st_values.specs.Value.{Path, Value, number, Store, at, put}
 use Rattle.st_meaning.specs.Operation.{number_in, elem_of}
 use Rattle.st_meaning.specs.Call.{class_of_kind}

@@ -2,7 +2,7 @@
 
 ghost use Rattle.std.specs.Prelude.{◌≡◌, ℕ, false, nat_le, pos, neg_ℤ, ◌++◌, MatchOption};
 ghost use Rattle.st_types.specs.declared.elem.Elem.{Elem as Kind};
-ghost use Rattle.st_rules.specs.Number as number;
+ghost use Rattle.st_tree.specs.Number as number;
 ghost use Rattle.st_rules.specs.Faults as faults;
 ghost use Rattle.st_rules.specs.Literals as literals;
 

@@ -19,4 +19,3 @@ pub mod Calls
 pub mod Expressions
 pub mod Statements
 pub mod Rows
-pub use Rattle.st_tree.specs.Number

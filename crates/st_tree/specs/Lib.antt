@@ -15,5 +15,4 @@ pub mod Declarations
 pub mod Beginnings
 pub mod NoUnit
 pub mod Reads
-pub use Rattle.plc_text.specs.declared.lines.Span
 pub mod Private

@@ -1,3 +1,2 @@
 pub mod ConstantLaws
-pub use Rattle.st_rules.proofs.ListLaws
 pub mod DimensionLaws

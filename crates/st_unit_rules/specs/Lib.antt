@@ -14,4 +14,3 @@ pub mod declared_names
 pub mod passing_laws
 pub mod refusal_codes
 pub mod declaration_list
-pub use Rattle.st_unit_rules.specs.declared_names.Variables

@@ -4,9 +4,3 @@ pub mod Variables
 pub mod Declarations
 pub mod UnitNames
 pub mod ConstantLaws
-pub use Rattle.st_rules.specs.Modifiers
-pub use Rattle.st_rules.specs.Scope
-pub use Rattle.st_tree.specs.declared.declaration.Item
-pub use Rattle.st_tree.specs.declared.declaration.Section
-pub use Rattle.st_tree.specs.declared.name.Name
-pub use Rattle.st_tree.specs.declared.declaration.Member

@@ -5,4 +5,3 @@ pub mod Initial
 pub mod View
 pub mod ValueLaws
 pub mod ShapeLaws
-pub use Rattle.st_rules.specs.Chains

@@ -3,6 +3,3 @@
 
 pub mod unit_names;
 pub mod unit_tables;
-
-pub use type_resolution;
-pub use type_resolution::{iface_tables, name_resolution};

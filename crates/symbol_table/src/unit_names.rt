@@ -9,5 +9,3 @@ mod routines;
 mod types;
 
 pub use names::unit_names;
-pub use type_resolution;
-pub use type_resolution::{iface_tables, name_resolution};

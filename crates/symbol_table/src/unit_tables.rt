@@ -3,6 +3,5 @@
 mod classes;
 mod tables;
 
-pub use crate::unit_names::type_resolution;
 pub use classes::list_classes;
 pub use tables::UnitTables;

@@ -1,3 +1,2 @@
 pub mod NameLaws
 pub mod NumberLaws
-pub use Rattle.declared_symbols.proofs.untold_names.UntoldLaws

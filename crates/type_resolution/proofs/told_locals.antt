@@ -1,4 +1,3 @@
 pub mod ItemLaws
 pub mod TellingLaws
 pub mod LeftLaws
-pub use Rattle.type_resolution.proofs.declared_variables.UntoldLaws

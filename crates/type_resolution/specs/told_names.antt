@@ -1,3 +1,2 @@
 pub mod Told
 pub mod Private
-pub use Rattle.name_resolution.specs.Tables

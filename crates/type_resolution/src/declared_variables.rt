@@ -5,7 +5,6 @@ mod locals;
 mod members;
 mod names;
 
-pub use crate::written_types::{iface_tables, name_resolution};
 pub use globals::{add_globals, add_section_globals};
 pub use locals::declared_locals;
 pub use members::{declared_members, declared_program};

@@ -4,7 +4,4 @@ mod found;
 mod tell;
 mod told;
 
-pub use declared_symbols;
-pub use name_resolution;
-pub use name_resolution::iface_tables;
 pub use told::tell_all;

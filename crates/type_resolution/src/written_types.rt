@@ -6,9 +6,6 @@ mod types;
 mod values;
 
 pub use arrays::array_of;
-pub use constant_folding;
-pub use constant_folding::{check_places, iface_tables, name_resolution};
 pub use constants::constant_of;
-pub use st_check_expr::check_nodes;
 pub use types::{named_type, type_written};
 pub use values::{bound_value, is_number_type, told_value};

@@ -15,8 +15,8 @@ use Rattle.program_tables.specs.st_initial.Variables.{variables_of, fields_at}
 use Rattle.st_values.specs.View.{program_of}
 use Rattle.change_names.specs.Pairs.{or_none}
 use Rattle.st_change.specs.From.{Way, by_name, by_index, Pairs, pairs_of, structure_pairs, field_name, field_number, field_named, part_by, step_of}
-use Rattle.change_names.specs.Places.{Table, first_where}
-use Rattle.change_names.proofs.PlaceLaws.{FromHere, from_all}
+use Rattle.change_names.specs.change_pairs.Places.{Table, first_where}
+use Rattle.change_names.proofs.change_pairs.PlaceLaws.{FromHere, from_all}
 use Rattle.shape_trees.specs.declared.shape.Shape.{Shape as CodeShape}
 use Rattle.shape_trees.specs.declared.shape.Shape.TheVariants as code
 use Rattle.shape_trees.specs.declared.shape.Field.{Field as CodeField}

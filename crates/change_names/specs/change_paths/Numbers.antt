@@ -3,7 +3,7 @@ use Rattle.std.specs.Prelude.{◌≡◌, ℕ, List, Option, Some, None, slice_ge
 use Rattle.st_rules.specs.Named.{first_place}
 use Rattle.st_values.specs.Program.{Program, class_variables}
 use Rattle.program_tables.specs.st_initial.Variables.{fields_at}
-use Rattle.change_names.specs.Places.{Table, found_in}
+use Rattle.change_names.specs.change_pairs.Places.{Table, found_in}
 use Rattle.shape_trees.specs.Numbers.{names_of}
 use Rattle.change_names.specs.declared.change_paths.numbers.FieldNumbers.{FieldNumbers}
 

@@ -26,9 +26,9 @@ use Rattle.st_unit_rules.specs.NameRules.{space_faults, part_names}
 use Rattle.st_unit_rules.specs.VariableRules.{initial_if_given, instance_out_of_place}
 use Rattle.check_limits.specs.declared.type_sizes.sizes.TypeSizes.{TypeSizes}
 use Rattle.check_limits.specs.type_sizes.Sizes.{Measures}
-use Rattle.check_declared_variables.proofs.variable_rules.Parts.{joined}
-use Rattle.check_declared_variables.specs.variable_rules.CheckedType.{CheckedType}
-use Rattle.check_declared_variables.specs.variable_rules.Types.{ChecksType}
+use Rattle.check_initial_values.proofs.Parts.{joined}
+use Rattle.check_declared_variables.specs.declared.type_rules.types.CheckedType.{CheckedType}
+use Rattle.check_declared_variables.specs.type_rules.Types.{ChecksType}
 use Rattle.check_declared_variables.specs.declared.entry_rules.bodies.CheckedBody.{CheckedBody}
 use Rattle.check_declared_variables.specs.declared.entry_rules.entries.CheckedEntry.{CheckedEntry}
 use Rattle.check_declared_variables.specs.declared.entry_rules.groups.CheckedGroups.{CheckedGroups}

@@ -14,9 +14,9 @@ use Rattle.st_unit_rules.specs.declared_names.Declarations.{item_line_of}
 use Rattle.st_unit_rules.specs.declared_names.WrittenTypes.{type_written, type_faults}
 use Rattle.st_unit_rules.specs.Checked.{Each, IfThere, TypedGroup, TypedInitial, TypedSpec}
 use Rattle.st_unit_rules.specs.VariableRules.{instance_out_of_place, initial_if_given}
-use Rattle.check_declared_variables.proofs.variable_rules.Parts.{joined}
-use Rattle.check_declared_variables.specs.variable_rules.CheckedType.{CheckedType}
-use Rattle.check_declared_variables.specs.variable_rules.Types.{ChecksType}
+use Rattle.check_initial_values.proofs.Parts.{joined}
+use Rattle.check_declared_variables.specs.declared.type_rules.types.CheckedType.{CheckedType}
+use Rattle.check_declared_variables.specs.type_rules.Types.{ChecksType}
 use Rattle.check_declared_variables.specs.declared.variable_rules.given.CheckedGiven.{CheckedGiven}
 use Rattle.check_declared_variables.specs.variable_rules.Given.{ChecksGiven}
 use Rattle.check_declared_variables.proofs.variable_rules.EachLaws.{EachTo, each_begun, each_next, each_least, each_trees}

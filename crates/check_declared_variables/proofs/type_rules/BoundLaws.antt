@@ -10,8 +10,8 @@ use Rattle.st_rules.specs.Expressions.{line_of, type_of, index_unsuited}
 use Rattle.st_unit_rules.specs.declared_names.Constants.{if_none, constant_value, value_faults, constant_faults, told_value, names_are_told}
 use Rattle.st_unit_rules.specs.declared_names.WrittenTypes.{is_number_type, bound_value, bounds_faults, lies_above}
 use Rattle.st_unit_rules.specs.Initials.{outcome_target, with_note}
-use Rattle.check_initial_values.specs.Constant.{Constant}
-use Rattle.check_initial_values.specs.Constants.{IsConstant}
+use Rattle.st_check_expr.specs.declared.constants.Constant.{Constant}
+use Rattle.st_check_expr.specs.Constants.{IsConstant}
 use Rattle.check_initial_values.specs.Worth.{noted}
 use Rattle.check_initial_values.proofs.Parts.{joined}
 use Rattle.check_declared_variables.specs.declared.type_rules.bounds.CheckedBound.{CheckedBound}

@@ -6,7 +6,7 @@ use Rattle.st_rules.specs.Faults.{Faults, least, earlier}
 use Rattle.st_rules.proofs.FaultLaws.{earlier-none}
 use Rattle.st_rules.proofs.ListLaws.{drop-at, drop-end, take-at, take-end}
 use Rattle.st_unit_rules.specs.Checked.{Each}
-use Rattle.check_declared_variables.proofs.type_rules.Parts.{more_broken}
+use Rattle.check_initial_values.proofs.Parts.{more_broken}
 
 module _ {A B : Type 0} (R : A → B → Type 0) where
   each_more : (xs : List A) (ys : List B) (x : A) (y : B) → Each R xs ys → R x y → Each R (xs ++ x ∷ []) (ys ++ y ∷ [])

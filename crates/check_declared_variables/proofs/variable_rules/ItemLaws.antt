@@ -20,7 +20,7 @@ use Rattle.st_unit_rules.specs.declared_names.WrittenTypes.{type_written, type_f
 use Rattle.st_unit_rules.specs.Checked.{IfThere, TypedInitial, TypedItem, TypedSpec}
 use Rattle.st_unit_rules.specs.Initials.{typed_initial}
 use Rattle.st_unit_rules.specs.VariableRules.{Home, may_hold_instances, may_have_address, instance_out_of_place, instance_of_abstract_class, bad_constant, address_faults, external_faults, initial_if_given, item_faults, result_faults}
-use Rattle.check_declared_variables.proofs.type_rules.Parts.{joined}
+use Rattle.check_initial_values.proofs.Parts.{joined}
 use Rattle.check_declared_variables.specs.declared.type_rules.types.CheckedType.{CheckedType}
 use Rattle.check_declared_variables.specs.type_rules.Types.{ChecksType}
 use Rattle.check_declared_variables.specs.declared.variable_rules.given.CheckedGiven.{CheckedGiven}

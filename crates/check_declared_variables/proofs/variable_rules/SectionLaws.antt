@@ -11,7 +11,7 @@ use Rattle.st_rules.specs.Scope.{Scope}
 use Rattle.st_unit_rules.specs.Checked.{Each, TypedItem, TypedSection}
 use Rattle.st_unit_rules.specs.VariableRules.{Home, item_faults, heading_faults, section_faults, sections_faults}
 use Rattle.section_rules.specs.Headings as headings
-use Rattle.check_declared_variables.proofs.type_rules.Parts.{joined}
+use Rattle.check_initial_values.proofs.Parts.{joined}
 use Rattle.check_declared_variables.specs.declared.variable_rules.sections.CheckedItems.{CheckedItems}
 use Rattle.check_declared_variables.specs.declared.variable_rules.sections.CheckedSection.{CheckedSection}
 use Rattle.check_declared_variables.specs.declared.variable_rules.sections.CheckedSections.{CheckedSections}

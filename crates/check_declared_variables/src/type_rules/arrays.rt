@@ -5,10 +5,10 @@ ghost use Rattle.check_declared_variables.specs.type_rules.Private.Arrays.{IsAro
 
 use crate::type_rules::dimensions::{Dimensions, Told, check_dimensions};
 use crate::type_rules::elements::noted;
+use name_resolution::Scope;
 use plc_text::{Items, NoMemory};
 use st_tree::{ArraySpec, Bounds, Note};
 use std::alloc::Global;
-use type_resolution::name_resolution::Scope;
 
 /// The arrays of a type so far, the last one first.
 #[derive(Drop)]

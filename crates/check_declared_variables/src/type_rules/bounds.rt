@@ -4,16 +4,16 @@ ghost use Rattle.std.specs.Prelude.{◌≡◌, IfOk};
 ghost use Rattle.st_tree.specs.Expression.{expression_of};
 ghost use Rattle.check_declared_variables.specs.type_rules.Private.Bounds.{bound_found, lies_above, IsBound, BoundChecks, IsDimension, DimensionChecks};
 
-use check_initial_values::st_check_expr::{Constant, check_constant};
 use check_initial_values::with_value;
+use check_nodes::line_of;
+use constant_folding::names_are_told;
+use name_resolution::Scope;
 use plc_text::{Code, NoMemory};
+use st_check_expr::{Constant, check_constant};
 use st_operators::{index_fault, is_number};
 use st_rules::{Asked, earlier, when};
 use st_tree::{Bounds, Expr, Note};
 use std::alloc::Global;
-use type_resolution::check_nodes::line_of;
-use type_resolution::constant_folding::names_are_told;
-use type_resolution::name_resolution::Scope;
 use type_resolution::written_types::is_number_type;
 
 /// A bound of an array, checked.

@@ -5,12 +5,12 @@ ghost use Rattle.st_unit_rules.specs.declared_names.WrittenTypes as written;
 ghost use Rattle.check_declared_variables.specs.type_rules.Private.Dimensions.{Surrounds, DimensionsFind};
 
 use crate::type_rules::bounds::{CheckedDimension, check_dimension};
+use name_resolution::Scope;
 use plc_text::{Code, NoMemory};
 use st_rules::earlier;
 use st_tree::{Bounds, Note};
 use st_types::StType;
 use std::alloc::Global;
-use type_resolution::name_resolution::Scope;
 use type_resolution::written_types::array_of;
 
 /// What is told of a type from some dimension on.

@@ -10,13 +10,13 @@ ghost use Rattle.st_tree.specs.declared.program.Target.TheVariants as targets;
 ghost use Rattle.st_unit_rules.specs.declared_names.WrittenTypes as written;
 ghost use Rattle.check_declared_variables.specs.type_rules.Private.Elements.{ElementChecks, IsElementary, IsNamed, IsReference, is_instance_told};
 
+use check_places::note;
+use name_resolution::Scope;
 use plc_text::{Code, NoMemory, Text};
 use st_rules::{copied, earlier, when};
 use st_tree::{Note, SimpleSpec, Target};
 use st_types::{Elem, StType};
 use std::alloc::Global;
-use type_resolution::check_places::note;
-use type_resolution::name_resolution::Scope;
 use type_resolution::written_types::named_type;
 
 /// What the innermost array is of, checked.

@@ -6,11 +6,11 @@ ghost use Rattle.check_declared_variables.specs.type_rules.Types.{ChecksType};
 use crate::type_rules::arrays::{Arrays, check_arrays, turned_arrays};
 use crate::type_rules::dimensions::Told;
 use crate::type_rules::elements::{CheckedElement, check_element};
+use name_resolution::Scope;
 use plc_text::{Code, NoMemory};
 use st_tree::{Note, TypeSpec};
 use st_types::StType;
 use std::alloc::Global;
-use type_resolution::name_resolution::Scope;
 
 /// What is found out about a type as it is written.
 #[derive(Drop)]

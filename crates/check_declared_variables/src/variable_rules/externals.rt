@@ -6,7 +6,7 @@ ghost use Rattle.st_rules.specs.Types as types;
 ghost use Rattle.st_unit_rules.specs.VariableRules as rules;
 ghost use Rattle.check_declared_variables.specs.variable_rules.Private.Externals.{global_in, name_faults, external_faults};
 
-use check_names::name_resolution::NameTables;
+use name_resolution::NameTables;
 use plc_text::{Code, Text};
 use st_rules::{DeclaredGlobal, DeclaredVariable, earlier, when};
 use st_tree::Name;

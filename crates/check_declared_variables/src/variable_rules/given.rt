@@ -4,8 +4,8 @@ ghost use Rattle.std.specs.Prelude.{IfOk, option_map};
 ghost use Rattle.st_tree.specs.Initial.{initial_of};
 ghost use Rattle.check_declared_variables.specs.variable_rules.Given.{ChecksGiven};
 
-use crate::type_rules::check_initial_values::{CheckedInitial, check_initial};
-use check_names::name_resolution::Scope;
+use check_initial_values::{CheckedInitial, check_initial};
+use name_resolution::Scope;
 use plc_text::{Code, NoMemory};
 use st_tree::{Init, Note};
 use st_types::StType;

@@ -12,7 +12,7 @@ use crate::variable_rules::copies::copied_names;
 use crate::variable_rules::externals::externals_fault;
 use crate::variable_rules::given::{CheckedGiven, check_given};
 use crate::variable_rules::rules::own_fault;
-use check_names::name_resolution::{NameTables, Scope};
+use name_resolution::{NameTables, Scope};
 use plc_text::{Code, Items, NoMemory, Text};
 use section_rules::Home;
 use st_rules::{copied_text, earlier, is_external};

@@ -5,7 +5,7 @@ ghost use Rattle.check_declared_variables.specs.variable_rules.Results.{ChecksRe
 ghost use Rattle.check_declared_variables.specs.variable_rules.Private.Results.{IsResult};
 
 use crate::type_rules::{CheckedType, check_type};
-use check_names::name_resolution::Scope;
+use name_resolution::Scope;
 use plc_text::{Code, NoMemory};
 use section_rules::instance_out_of_place;
 use st_rules::earlier;

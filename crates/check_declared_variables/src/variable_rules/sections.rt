@@ -7,7 +7,7 @@ ghost use Rattle.check_declared_variables.specs.variable_rules.Sections.{ChecksS
 ghost use Rattle.check_declared_variables.specs.variable_rules.Private.Sections.{NoItems, AddsItem, ItemsFind, IsSection, NoSections, AddsSection};
 
 use crate::variable_rules::items::{CheckedItem, check_item};
-use check_names::name_resolution::{NameTables, Scope};
+use name_resolution::{NameTables, Scope};
 use plc_text::{Code, Items, NoMemory};
 use section_rules::{Home, heading_fault};
 use st_rules::earlier;

@@ -9,7 +9,7 @@ use Rattle.st_rules.specs.Chains.{is_among}
 use Rattle.st_rules.specs.Interfaces.{interface_named, interfaces_named, extended}
 use Rattle.st_rules.proofs.InterfaceLaws.{extended_within}
 use Rattle.st_unit_rules.specs.Limits.{most_steps, has_way}
-use Rattle.graph_cycles.specs.Edge.{Edge}
+use Rattle.graph_reach.specs.declared.threads.Edge.{Edge}
 use Rattle.graph_cycles.specs.Graph.{AreEdgesOf, AreWithin, marked}
 use Rattle.declared_graph.specs.Private.Edges.{edge, edges_to, edges_from, out_at}
 use Rattle.declared_graph.proofs.EdgeLaws.{are_edges, are_within, edges_of_same}

@@ -8,7 +8,7 @@ use Rattle.st_rules.proofs.Booleans.{false≢true, none≢some, some-same, eithe
 use Rattle.st_rules.proofs.LeadsLaws.{IsWithin}
 use Rattle.st_unit_rules.specs.Cycles.{lies_on_cycle}
 use Rattle.st_unit_rules.specs.Limits.{most_steps, has_way}
-use Rattle.graph_cycles.specs.Edge.{Edge}
+use Rattle.graph_reach.specs.declared.threads.Edge.{Edge}
 use Rattle.graph_cycles.specs.Graph.{HasEdge, AreEdgesOf, AreWithin, LiesOnCycle, marked}
 use Rattle.graph_cycles.proofs.CycleLaws.{marked_set, marked_none}
 use Rattle.declared_graph.proofs.CycleLaws.{cycle_told}

@@ -16,7 +16,7 @@ use Rattle.st_tree.specs.declared.name.Name.{Name}
 use Rattle.st_rules.specs.Faults.{earlier, least, when}
 use Rattle.st_rules.proofs.Booleans.{same-tests}
 use Rattle.st_rules.proofs.FaultLaws.{earlier-assoc, least-append}
-use Rattle.st_unit_rules.specs.Variables.{Written, item_written, section_written, sections_written}
+use Rattle.st_unit_rules.specs.declared_names.Variables.{Written, item_written, section_written, sections_written}
 use Rattle.st_unit_rules.specs.NameRules.{is_named, declared_before, declared_twice, section_names, member_names, local_named_as_routine}
 use Rattle.check_names.specs.name_spaces.Held.{Holds}
 use Rattle.check_names.specs.name_spaces.NamesIn.{names_of}

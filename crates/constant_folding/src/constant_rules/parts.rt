@@ -10,7 +10,7 @@ ghost use Rattle.st_unit_rules.specs.declared_names.Constants as constants;
 ghost use Rattle.constant_folding.specs.constant_rules.Private.Parts.{argument_part, place_part};
 
 use crate::constant_rules::places::{constant_place_fault, is_conversion};
-use check_places::name_resolution::Scope;
+use name_resolution::Scope;
 use plc_text::Code;
 use st_rules::{at, earlier};
 use st_tree::{Argument, Expr, Place, Tail};

@@ -9,8 +9,8 @@ ghost use Rattle.st_rules.specs.Scope.{Scope as AScope, sought, dot_qualifier};
 ghost use Rattle.st_unit_rules.specs.declared_names.Constants as constants;
 ghost use Rattle.constant_folding.specs.constant_rules.Private.Places as own;
 
-use check_places::name_resolution::{Meant, Qualifier, Scope};
 use check_places::{conversion_named, is_last, root_line};
+use name_resolution::{Meant, Qualifier, Scope};
 use plc_text::{Code, Text};
 use st_rules::when;
 use st_tree::{Root, Selector};

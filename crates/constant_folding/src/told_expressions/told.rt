@@ -4,12 +4,12 @@ ghost use Rattle.std.specs.Prelude.{◌≡◌, ◌&&◌};
 ghost use Rattle.st_tree.specs.Expression.{expression_of, argument_of, arguments_of, place_of, tails_of};
 ghost use Rattle.st_rules.specs.Expressions as expressions;
 ghost use Rattle.st_rules.specs.Scope as scope;
-ghost use Rattle.check_places.specs.Meant.{qualifier};
+ghost use Rattle.name_resolution.specs.Meant.{qualifier};
 ghost use Rattle.st_unit_rules.specs.declared_names.Constants as constants;
 ghost use Rattle.constant_folding.specs.told_expressions.Private.Parts as own;
 
-use check_places::name_resolution::{Qualifier, Scope};
 use check_places::whole_target;
+use name_resolution::{Qualifier, Scope};
 use plc_text::Text;
 use st_tree::{Argument, Expr, Place, Tail};
 use st_unit_rules::declared_names::is_told;

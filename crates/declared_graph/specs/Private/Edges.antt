@@ -1,7 +1,7 @@
 -- Graphs as the list of what each node leads to, and their edges.
 use Rattle.std.specs.Prelude.{ℕ, suc, List, [], ◌∷◌, ◌++◌, map, Option, Some, None, slice_get}
 use Rattle.std.specs.Option.{unwrap_or}
-use Rattle.graph_cycles.specs.Edge.{Edge}
+use Rattle.graph_reach.specs.declared.threads.Edge.{Edge}
 
 abbrev pub edge : ℕ → ℕ → Edge
 edge i j = record { from = i; to = j }

@@ -10,12 +10,12 @@ ghost use Rattle.declared_symbols.specs.unit_untold.Private.Counts as counts;
 ghost use Rattle.declared_symbols.specs.unit_untold.Private.Counts.{AreSums};
 
 use crate::class_chains::ClassChains;
-use crate::class_chains::class_tables::ClassTables;
 use crate::unit_untold::counts::{Counts, all_own};
 use crate::unit_untold::sums::{counts_above, totals_of};
 use crate::untold_names::{
     untold_class, untold_globals, untold_interfaces, untold_parts, untold_types,
 };
+use class_tables::ClassTables;
 use plc_text::{NoMemory, Series, one_more};
 use st_rules::{DeclaredClass, DeclaredNames};
 use st_tree::{ClassDecl, Decl, Unit};

@@ -5,7 +5,7 @@ use Rattle.st_tree.specs.declared.path.Path.{Path}
 use Rattle.st_values.specs.Program.{Program, conforms}
 use Rattle.st_values.specs.Value.{Value, reference}
 use Rattle.st_meaning.specs.State.{in_store, Run, ◌>>=◌, gives}
-use Rattle.reference_values.specs.Found.{class_there}
+use Rattle.call_steps.specs.Found.{class_there}
 
 abbrev pub kept_if : Program → StType → Path → Run (Option Path)
 kept_if p t q = do

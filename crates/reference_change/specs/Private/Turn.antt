@@ -2,9 +2,9 @@
 use Rattle.std.specs.Prelude.{◌≡◌}
 use Rattle.st_values.specs.Program.{Program}
 use Rattle.st_values.specs.View.{program_of}
-use Rattle.change_carry.specs.Change.{IsChange}
+use Rattle.change_names.specs.change_paths.Change.{IsChange}
 use Rattle.change_kept.specs.Kept.{AreKept}
-use Rattle.reference_hooks.specs.Loaded.{IsLoaded}
+use Rattle.reference_tasks.specs.Loaded.{IsLoaded}
 use Rattle.reference_change.specs.declared.turn.Turn.{Turn}
 
 -- the two programs

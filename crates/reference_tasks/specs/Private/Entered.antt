@@ -6,8 +6,8 @@ use Rattle.st_values.specs.View.{program_of}
 use Rattle.st_meaning.specs.Enter.{enter}
 use Rattle.program_tables.specs.declared.routine.RoutineId.{RoutineId}
 use Rattle.program_tables.specs.Routine.{routine_of}
-use Rattle.reference_bodies.specs.Given.{Given}
-use Rattle.reference_bodies.specs.Opening.{given_of}
+use Rattle.call_frames.specs.declared.slots.Given.{Given}
+use Rattle.call_frames.specs.Opening.{given_of}
 use Rattle.run_state.specs.declared.state.Frame.{Frame}
 use Rattle.run_state.specs.declared.state.RunState.{RunState}
 use Rattle.run_state.specs.declared.state.Stop.{Stop}

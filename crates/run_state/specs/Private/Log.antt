@@ -1,7 +1,7 @@
 -- A value is put into a region, and the one that stood there comes out.
 use Rattle.std.specs.Prelude.{◌≡◌, Option, Some, None, Result, Ok, Err}
 use Rattle.st_tree.specs.declared.path.Path.{Path}
-use Rattle.value_trees.specs.PlainValue.{Value, Store, put}
+use Rattle.st_values.specs.Value.{Value, Store, put}
 use Rattle.value_trees.specs.declared.value.Value.{Value as CodeValue}
 use Rattle.value_trees.specs.Value.{value_of}
 

@@ -1,7 +1,7 @@
 -- A value is put into a local.
 use Rattle.std.specs.Prelude.{◌≡◌, ℕ, Bool, true, false, List, Option, Some, None}
 use Rattle.st_tree.specs.declared.path.Step.{Step}
-use Rattle.value_trees.specs.PlainValue.{Value, value_with, ◌>>=◌}
+use Rattle.st_values.specs.Value.{Value, value_with, ◌>>=◌}
 use Rattle.st_meaning.specs.State.{State, Run, Done, there, Slot, holds, Frame, frame_at, frame_value, held_in, with_local}
 
 abbrev pub SlotPut : Bool → Slot → List Step → Value → Slot → Type 0

@@ -10,10 +10,10 @@ ghost use Rattle.st_check_body.specs.st_body_parts.Found.{TargetFinds, Statement
 
 use crate::st_body_parts::found::CheckedStatement;
 use crate::st_body_parts::limits::{arguments_limit, selectors_limit};
-use check_nodes::check_places::{
+use check_nodes::{CheckedPlace, line_of, prepare};
+use check_places::{
     note, note_of, placed, root_line, selectors_fault, standing_type, target_fault, whole_fault,
 };
-use check_nodes::{CheckedPlace, line_of, prepare};
 use name_resolution::Scope;
 use plc_text::{Code, NoMemory};
 use st_check_expr::{check_arguments, check_place, check_whole};

@@ -13,8 +13,7 @@ ghost use Rattle.name_resolution.specs.Meant.{meant};
 ghost use Rattle.st_check_body.specs.st_body_parts.Found.{ControlFinds, StepFinds};
 
 use crate::st_body_parts::found::{CheckedControl, CheckedStep};
-use check_nodes::check_places::{note, root_fault};
-use check_places::meant_target;
+use check_places::{meant_target, note, root_fault};
 use name_resolution::{Meant, Scope};
 use plc_text::{Code, NoMemory, Text};
 use st_check_expr::check_whole;

@@ -18,9 +18,8 @@ ghost use Rattle.st_check_body.specs.st_body_parts.Found.{EndIs, EndFinds, Label
 use crate::st_body_parts::counting::{bare_fault, meant_type};
 use crate::st_body_parts::found::{CheckedEnd, CheckedLabel, CheckedLabels};
 use crate::st_body_parts::nodes::{no_label, with_label};
-use check_nodes::check_calls::value_fault;
-use check_nodes::check_places::note;
-use check_places::value_target;
+use check_calls::value_fault;
+use check_places::{note, value_target};
 use name_resolution::{Meant, Qualifier, Scope};
 use plc_text::{Code, NoMemory, Text};
 use st_operators::{

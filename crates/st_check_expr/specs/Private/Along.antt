@@ -8,7 +8,7 @@ use Rattle.st_rules.specs.Scope.{Scope}
 use Rattle.st_rules.specs.Places as places
 use Rattle.st_rules.specs.Places.{is_last, selector_faults}
 use Rattle.st_rules.specs.Expressions.{along_faults, typed_along, selector_index_faults, typed_selector}
-use Rattle.check_nodes.specs.Standing.{standing}
+use Rattle.check_places.specs.Standing.{standing}
 use Rattle.check_nodes.specs.declared.along.Along.{Along}
 use Rattle.check_nodes.specs.declared.along.CheckedSelector.{CheckedSelector}
 

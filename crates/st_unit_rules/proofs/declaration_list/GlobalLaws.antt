@@ -3,11 +3,11 @@ use Rattle.std.proofs.Common.{◌≡◌, ℕ, Bool, true, false, List, [], ◌�
 use Rattle.std.specs.Prelude.{flat_map}
 use Rattle.std.proofs.lemmas.List.{map-append}
 use Rattle.std.proofs.lemmas.Grind.{flat_map-append}
-use Rattle.st_unit_rules.specs.declared_names.Item.{Item}
-use Rattle.st_unit_rules.specs.declared_names.Section.{Section}
-use Rattle.st_unit_rules.specs.declared_names.Member.{Member}
+use Rattle.st_tree.specs.declared.declaration.Item.{Item}
+use Rattle.st_tree.specs.declared.declaration.Section.{Section}
+use Rattle.st_tree.specs.declared.declaration.Member.{Member}
 use Rattle.st_tree.specs.declared.declaration.Member.TheVariants as member
-use Rattle.st_unit_rules.proofs.declared_names.ListLaws.{drop-end}
+use Rattle.st_rules.proofs.ListLaws.{drop-end}
 use Rattle.st_unit_rules.specs.declared_names.Variables.{Written, item_written, section_written, sections_written, sections_in}
 use Rattle.st_unit_rules.specs.declared_names.Declarations.{Global, a_global, globals_of_item, globals_of_section}
 use Rattle.st_unit_rules.specs.declared.declaration_list.written.WrittenName.{WrittenName}

@@ -1,9 +1,9 @@
 -- The names that sections declare, one by one, and such a name as the code lends it.
 use Rattle.std.specs.Prelude.{ℕ, Bool, true, false, List, [], ◌∷◌, flat_map}
-use Rattle.st_unit_rules.specs.declared_names.Item.{Item}
-use Rattle.st_unit_rules.specs.declared_names.Section.{Section}
-use Rattle.st_unit_rules.specs.declared_names.Name.{Name}
-use Rattle.st_unit_rules.specs.declared_names.Modifiers.{written_access}
+use Rattle.st_tree.specs.declared.declaration.Item.{Item}
+use Rattle.st_tree.specs.declared.declaration.Section.{Section}
+use Rattle.st_tree.specs.declared.name.Name.{Name}
+use Rattle.st_rules.specs.Modifiers.{written_access}
 use Rattle.st_unit_rules.specs.declared_names.Variables.{Written, declares_constants, section_access, item_written}
 use Rattle.st_unit_rules.specs.declared_names.Declarations.{Global}
 use Rattle.st_unit_rules.specs.declared.declaration_list.written.WrittenName.{WrittenName}

@@ -4,7 +4,7 @@ ghost use Rattle.std.specs.Prelude.{◌≡◌, ◌∷◌, [], ◌++◌, true, ma
 ghost use Rattle.st_unit_rules.specs.declared_names.Declarations as declarations;
 ghost use Rattle.st_unit_rules.specs.declared_names.Variables as variables;
 ghost use Rattle.st_unit_rules.specs.declared_names.Variables.{sections_in, sections_written};
-ghost use Rattle.st_unit_rules.specs.declared_names.Modifiers as modifiers;
+ghost use Rattle.st_rules.specs.Modifiers as modifiers;
 ghost use Rattle.st_unit_rules.specs.declaration_list.Written.{written_in, global_of, written_of, names_from, names_in_item, names_in_section, names_in_sections};
 
 use plc_text::NoMemory;

@@ -16,8 +16,8 @@ use Rattle.st_rules.specs.Scope.{Scope}
 use Rattle.st_rules.proofs.ListLaws.{drop-at, drop-end, take-at}
 use Rattle.st_unit_rules.specs.declared_names.Variables.{Written, sections_written, sections_in, is_kept_written, is_body_written, members_declared}
 use Rattle.st_unit_rules.specs.declared_names.UnitNames.{names_from, no_names, names_told, class_scope, class_declared, method_declared, written_by, written_above}
-use Rattle.type_resolution.specs.told_locals.Untold.{untold_members, untold_class, untold_classes, untold_names, declared_by, declared_above}
-use Rattle.type_resolution.proofs.told_locals.UntoldLaws.{untold_laws}
+use Rattle.declared_symbols.specs.untold_names.Untold.{untold_members, untold_class, untold_classes, untold_names, declared_by, declared_above}
+use Rattle.declared_symbols.proofs.untold_names.UntoldLaws.{untold_laws}
 use Rattle.symbol_table.specs.declared.unit_names.known.Known.{Known}
 use Rattle.symbol_table.specs.unit_names.Private.Known.{decls_of, names_of, classes_from, IsClassAt, AddsClass}
 

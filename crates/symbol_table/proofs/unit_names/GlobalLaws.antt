@@ -16,8 +16,8 @@ use Rattle.st_rules.specs.Scope.{Scope}
 use Rattle.st_unit_rules.specs.declared_names.Variables.{Written, section_written, sections_written, constant_target, constant_of, declared_with}
 use Rattle.st_unit_rules.specs.declared_names.Declarations.{resource_globals, configuration_globals}
 use Rattle.st_unit_rules.specs.declared_names.UnitNames.{unit_scope, variables_declared, region_count, routine_declared, globals_from}
-use Rattle.type_resolution.specs.told_locals.Untold.{number_behind, regions_of}
-use Rattle.type_resolution.specs.told_locals.Globals.{globals_in, AddsGlobals}
+use Rattle.declared_symbols.specs.untold_names.Untold.{number_behind, regions_of}
+use Rattle.type_resolution.specs.declared_variables.Globals.{globals_in, AddsGlobals}
 
 -- ---- sections
 

@@ -6,7 +6,7 @@ ghost use Rattle.st_rules.specs.declared.names.DeclaredGlobal.TheVariants as glo
 ghost use Rattle.st_unit_rules.specs.declared_names.Declarations as declarations;
 ghost use Rattle.st_unit_rules.specs.declared_names.Variables.{section_written, sections_written};
 ghost use Rattle.st_unit_rules.specs.declared_names.UnitNames as unit_names;
-ghost use Rattle.type_resolution.specs.told_locals.Globals.{AddsGlobals};
+ghost use Rattle.type_resolution.specs.declared_variables.Globals.{AddsGlobals};
 ghost use Rattle.symbol_table.specs.unit_names.Private.Known.{IsKnown, decls_of, names_of, scope_in};
 
 use crate::unit_names::known::{Known, around, scope_of};

@@ -5,10 +5,10 @@ ghost use Rattle.type_resolution.specs.told_locals.Around.{IsAround, scope_aroun
 ghost use Rattle.symbol_table.specs.unit_names.Private.Known.{IsKnown, scope_in};
 
 use class_tables::ClassTables;
+use iface_tables::IfaceTables;
+use name_resolution::{NameTables, Scope};
 use plc_text::NoMemory;
 use std::alloc::Global;
-use type_resolution::iface_tables::IfaceTables;
-use type_resolution::name_resolution::{NameTables, Scope};
 use type_resolution::told_locals::Around;
 
 /// The tables of a unit.

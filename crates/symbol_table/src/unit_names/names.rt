@@ -11,12 +11,12 @@ use crate::unit_names::parts::declared_parts;
 use crate::unit_names::routines::declared_interfaces;
 use crate::unit_names::types::declared_types;
 use class_tables::ClassTables;
+use declared_symbols::unit_untold::unit_untold;
+use iface_tables::IfaceTables;
 use plc_text::NoMemory;
 use st_rules::DeclaredNames;
 use st_tree::{Decl, Unit};
 use std::alloc::Global;
-use type_resolution::declared_symbols::unit_untold::unit_untold;
-use type_resolution::iface_tables::IfaceTables;
 use type_resolution::told_names::tell_all;
 
 /// What is told of the names of a unit from what its tables tell.

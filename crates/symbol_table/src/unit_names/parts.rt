@@ -6,12 +6,12 @@ ghost use Rattle.st_unit_rules.specs.declared_names.UnitNames as unit_names;
 ghost use Rattle.symbol_table.specs.unit_names.Private.Known.{IsKnown, decls_of, field_of, group_in, names_of};
 
 use crate::unit_names::known::{Known, scope_of};
+use name_resolution::Scope;
 use plc_text::{Items, NoMemory, Text};
 use st_rules::{DeclaredField, TypeParts, copied, texts};
 use st_tree::{Decl, FieldGroup, Name, TypeBody, TypeDecl};
 use st_types::StType;
 use std::alloc::Global;
-use type_resolution::name_resolution::Scope;
 use type_resolution::written_types::type_written;
 
 fn field(alloc: Global, kind: &Option<StType>, name: &Name) -> Result<DeclaredField, NoMemory>

@@ -9,11 +9,11 @@ ghost use Rattle.type_resolution.specs.told_locals.Around.{IsAround, scope_aroun
 ghost use Rattle.symbol_table.specs.unit_names.Private.Known.{IsKnown, decls_of, names_of, within};
 
 use crate::unit_names::known::{Known, around};
+use name_resolution::Scope;
 use plc_text::{Items, NoMemory, Series, Text};
 use st_rules::{DeclaredRoutine, DeclaredVariable, ResultType, copied, is_abstract, method_access};
 use st_tree::{Decl, Member, Method, Modifier, Name, Prototype, Section, SectionSort, TypeSpec};
 use std::alloc::Global;
-use type_resolution::name_resolution::Scope;
 use type_resolution::told_locals::{Around, Declaring, told_locals};
 use type_resolution::written_types::type_written;
 

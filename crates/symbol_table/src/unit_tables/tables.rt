@@ -5,24 +5,24 @@ ghost use Rattle.st_rules.specs.Classes.{classes_in};
 ghost use Rattle.st_rules.specs.Scope as rules;
 ghost use Rattle.st_unit_rules.specs.declared_names.UnitNames.{unit_names};
 ghost use Rattle.section_rules.specs.Variables.{classes_of};
-ghost use Rattle.symbol_table.specs.unit_names.Tables.{Knows};
-ghost use Rattle.symbol_table.specs.unit_names.Around.{IsAround, all_told, scope_around};
+ghost use Rattle.name_resolution.specs.Tables.{Knows};
+ghost use Rattle.type_resolution.specs.told_locals.Around.{IsAround, all_told, scope_around};
 ghost use Rattle.check_limits.specs.type_sizes.Sizes.{Measures};
 ghost use Rattle.symbol_table.specs.unit_tables.Scopes.{scope_in};
 
-use crate::unit_names::iface_tables::IfaceTables;
-use crate::unit_names::name_resolution::{NameTables, Scope};
-use crate::unit_names::type_resolution::told_locals::{Around, Declaring, told_locals};
 use crate::unit_names::unit_names;
 use crate::unit_tables::classes::list_classes;
 use check_limits::TypeSizes;
 use class_tables::ClassTables;
 use declared_graph::DeclaredGraph;
+use iface_tables::IfaceTables;
+use name_resolution::{NameTables, Scope};
 use plc_text::{NoMemory, Series};
 use st_rules::DeclaredVariable;
 use st_tree::{ClassDecl, Unit};
 use std::alloc::Global;
 use std::marker::Model;
+use type_resolution::told_locals::{Around, Declaring, told_locals};
 
 /// The tables of a unit, which contracts see as the unit.
 pub struct UnitTables<'u> {

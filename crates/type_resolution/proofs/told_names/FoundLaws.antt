@@ -16,8 +16,8 @@ use Rattle.st_rules.specs.Scope.{Scope}
 use Rattle.st_unit_rules.specs.declared_names.Variables.{Written}
 use Rattle.st_unit_rules.specs.declared_names.UnitNames.{entry_kind}
 use Rattle.st_unit_rules.specs.declaration_list.Written.{written_in}
-use Rattle.resolution_order.specs.telling_groups.PlaceLaws.{entry_can_be_told}
-use Rattle.resolution_order.specs.telling_groups.Jobs.{Job, of_entry, of_interface, of_class, of_global, of_member, can_be_told, Tells}
+use Rattle.resolution_order.specs.told_places.PlaceLaws.{entry_can_be_told}
+use Rattle.resolution_order.specs.telling_list.Jobs.{Job, of_entry, of_interface, of_class, of_global, of_member, can_be_told, Tells}
 use Rattle.resolution_order.specs.telling_groups.Groups.{Group, one_entry, one_interface, one_class, globals_of, members_of, each_name, jobs_of_group}
 use Rattle.type_resolution.specs.written_types.Types.{TellsConstant}
 use Rattle.type_resolution.specs.told_names.Private.State.{scope_in, entry_in, FindsEntry, Untellable, Tellable, Finds}

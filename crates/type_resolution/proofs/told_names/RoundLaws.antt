@@ -6,8 +6,8 @@ use Rattle.st_tree.specs.declared.unit.Decl.{Decl}
 use Rattle.st_rules.specs.declared.names.DeclaredNames.{DeclaredNames}
 use Rattle.name_resolution.specs.Tables.{Told}
 use Rattle.resolution_order.specs.told_laws.ToldLaws.{Every}
-use Rattle.resolution_order.specs.telling_groups.Jobs.{Job, jobs_in, is_told_of, can_be_told, IsDone}
-use Rattle.resolution_order.proofs.telling_groups.JobLaws.{job-laws}
+use Rattle.resolution_order.specs.telling_list.Jobs.{Job, jobs_in, is_told_of, can_be_told, IsDone}
+use Rattle.resolution_order.proofs.telling_list.JobLaws.{job-laws}
 use Rattle.resolution_order.specs.telling_groups.Groups.{Group, group_of, jobs_of_group}
 use Rattle.resolution_order.specs.declared.telling_groups.groups.Group.{Group as Held}
 use Rattle.resolution_order.specs.telling_groups.Arranged.{Among, Arranges}

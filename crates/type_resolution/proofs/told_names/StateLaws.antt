@@ -19,8 +19,8 @@ use Rattle.resolution_order.specs.told_laws.ToldLaws.{Every, NoLess, MeansNoLess
 use Rattle.resolution_order.specs.told_laws.TellingLaws.{Sound}
 use Rattle.resolution_order.proofs.told_laws.Telling.{telling_laws, one-changed, both-changed, variable-step}
 use Rattle.st_unit_rules.specs.declared_names.UnitNames.{names_told}
-use Rattle.resolution_order.specs.telling_groups.Jobs.{Job, of_entry, of_interface, of_class, of_global, of_member, jobs_in, is_told_of, with_job, Tells}
-use Rattle.resolution_order.proofs.telling_groups.JobLaws.{job-laws}
+use Rattle.resolution_order.specs.telling_list.Jobs.{Job, of_entry, of_interface, of_class, of_global, of_member, jobs_in, is_told_of, with_job, Tells}
+use Rattle.resolution_order.proofs.telling_list.JobLaws.{job-laws}
 use Rattle.resolution_order.specs.telling_groups.Groups.{Group, jobs_of_group}
 use Rattle.resolution_order.specs.telling_groups.Arranged.{Among}
 use Rattle.type_resolution.specs.told_names.Private.State.{Untellable, Tellable, Finds, with_jobs, Retold, IsState, IsOfUnit, GroupTold, Stays, Visits, Keeps}

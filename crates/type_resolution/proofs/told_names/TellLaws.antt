@@ -10,7 +10,7 @@ use Rattle.st_rules.specs.Telling.{with_global, with_member}
 use Rattle.st_rules.proofs.ListLaws.{drop-at, drop-end}
 use Rattle.name_resolution.specs.Tables.{Told}
 use Rattle.st_unit_rules.specs.declaration_list.Written.{written_in}
-use Rattle.resolution_order.specs.telling_groups.Jobs.{of_global, of_member}
+use Rattle.resolution_order.specs.telling_list.Jobs.{of_global, of_member}
 use Rattle.resolution_order.specs.telling_groups.Groups.{each_name}
 use Rattle.type_resolution.specs.told_names.Private.State.{with_jobs, with_globals, with_members, Retold}
 

@@ -5,7 +5,7 @@ use Rattle.st_rules.specs.declared.names.DeclaredVariable.{DeclaredVariable}
 use Rattle.st_rules.specs.Classes.{classes_in}
 use Rattle.st_rules.specs.Interfaces.{interfaces_in}
 use Rattle.st_rules.specs.Scope.{Scope}
-use Rattle.type_resolution.specs.declared_variables.Tables.{Knows}
+use Rattle.name_resolution.specs.Tables.{Knows}
 use Rattle.st_unit_rules.specs.declared_names.Variables.{members_declared, routine_locals}
 use Rattle.st_unit_rules.specs.declared_names.UnitNames.{locals_of, program_locals}
 use Rattle.type_resolution.specs.declared.told_locals.around.Around.{Around}

@@ -8,7 +8,7 @@ ghost use Rattle.type_resolution.specs.declared_variables.Private.Told.{ToldName
 
 use crate::declared_variables::members::{declared, number_behind};
 use crate::declared_variables::names::{ToldName, told_names, told_section};
-use crate::written_types::name_resolution::Scope;
+use name_resolution::Scope;
 use plc_text::{NoMemory, Series};
 use st_rules::DeclaredGlobal;
 use st_tree::{Section, Target};

@@ -8,8 +8,8 @@ ghost use Rattle.type_resolution.specs.declared_variables.Private.Told.{ToldName
 
 use crate::declared_variables::members::{declared, number_behind};
 use crate::declared_variables::names::{ToldName, told_names};
-use crate::written_types::name_resolution::Scope;
 use crate::written_types::type_written;
+use name_resolution::Scope;
 use plc_text::{NoMemory, Series, Text};
 use st_rules::{Access, DeclaredVariable, is_body_sort, is_instance_sort, is_parameter_sort};
 use st_tree::{Name, Section, SectionSort, Target, TypeSpec};

@@ -7,8 +7,8 @@ ghost use Rattle.declared_symbols.specs.untold_names.Untold.{number_behind as be
 ghost use Rattle.type_resolution.specs.declared_variables.Private.Told as own;
 
 use crate::declared_variables::names::{ToldName, told_members, told_names};
-use crate::written_types::name_resolution::Scope;
 use declared_symbols::untold_names::{untold_members, untold_variable};
+use name_resolution::Scope;
 use plc_text::{NoMemory, Series};
 use st_rules::{DeclaredVariable, copied};
 use st_tree::{Member, Section, Target};

@@ -6,8 +6,8 @@ ghost use Rattle.st_unit_rules.specs.declared_names.WrittenTypes.{type_written};
 ghost use Rattle.st_unit_rules.specs.declaration_list.Written.{written_in, written_of};
 ghost use Rattle.type_resolution.specs.declared_variables.Private.Told as own;
 
-use crate::written_types::name_resolution::Scope;
 use crate::written_types::{constant_of, type_written};
+use name_resolution::Scope;
 use plc_text::NoMemory;
 use st_rules::copied;
 use st_tree::{Item, Member, Name, Section};

@@ -7,11 +7,11 @@ ghost use Rattle.name_resolution.specs.Locals.{ArePlaces};
 ghost use Rattle.type_resolution.specs.written_types.Types.{TellsConstant};
 ghost use Rattle.type_resolution.specs.told_locals.Private.Telling.{scope_with};
 
-use crate::declared_variables::iface_tables::IfaceTables;
-use crate::declared_variables::name_resolution::{NameTables, Places, Scope, local_places};
 use crate::declared_variables::{declared_locals, declared_program};
 use crate::written_types::constant_of;
 use class_tables::ClassTables;
+use iface_tables::IfaceTables;
+use name_resolution::{NameTables, Places, Scope, local_places};
 use plc_text::{NoMemory, Series};
 use st_rules::DeclaredVariable;
 use st_tree::{Name, Section, TypeSpec};

@@ -10,9 +10,9 @@ ghost use Rattle.resolution_order.specs.told_laws.ToldLaws.{Each};
 ghost use Rattle.type_resolution.specs.told_locals.Around.{IsAround, all_told, scope_around, sections_of};
 ghost use Rattle.type_resolution.specs.told_locals.Private.Telling.{IsTold, is_left};
 
-use crate::declared_variables::name_resolution::local_places;
 use crate::told_locals::around::{Around, Declaring, declared_with};
 use crate::told_locals::telling::{Told, tell_each};
+use name_resolution::local_places;
 use plc_text::{NoMemory, Series, Text};
 use resolution_order::telling_groups::{Group, order_of_need};
 use st_rules::DeclaredVariable;

@@ -7,8 +7,8 @@ ghost use Rattle.resolution_order.specs.told_laws.LocalLaws.{with_local};
 ghost use Rattle.type_resolution.specs.told_locals.Around.{IsAround, sections_of};
 ghost use Rattle.type_resolution.specs.told_locals.Private.Telling.{IsTold, first_of, told_behind};
 
-use crate::declared_variables::name_resolution::{Places, tell_local};
 use crate::told_locals::around::{Around, Declaring, found_with};
+use name_resolution::{Places, tell_local};
 use plc_text::{NoMemory, Series};
 use st_rules::DeclaredVariable;
 use st_tree::Target;

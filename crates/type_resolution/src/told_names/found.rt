@@ -11,7 +11,7 @@ ghost use Rattle.type_resolution.specs.told_names.Private.State.{IsState};
 
 use crate::written_types::{constant_of, type_written};
 use class_tables::ClassTables;
-use name_resolution::iface_tables::IfaceTables;
+use iface_tables::IfaceTables;
 use name_resolution::{NameTables, Scope};
 use plc_text::NoMemory;
 use resolution_order::telling_groups::Group;

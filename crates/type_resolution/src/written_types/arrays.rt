@@ -6,7 +6,7 @@ ghost use Rattle.st_unit_rules.specs.declared_names.WrittenTypes as written;
 ghost use Rattle.type_resolution.specs.written_types.Private.Values as own;
 
 use crate::written_types::values::bound_value;
-use constant_folding::name_resolution::Scope;
+use name_resolution::Scope;
 use plc_text::NoMemory;
 use st_tree::{ArraySpec, Bounds};
 use st_types::{Boxed, StType};

@@ -11,7 +11,7 @@ ghost use Rattle.type_resolution.specs.written_types.Private.Values as own;
 
 use crate::written_types::types::type_written;
 use crate::written_types::values::told_value;
-use constant_folding::name_resolution::Scope;
+use name_resolution::Scope;
 use plc_text::NoMemory;
 use st_rules::Asked;
 use st_tree::{Expr, Init};

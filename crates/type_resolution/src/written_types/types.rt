@@ -5,7 +5,7 @@ ghost use Rattle.st_rules.specs.Expressions as expressions;
 ghost use Rattle.st_unit_rules.specs.declared_names.WrittenTypes as written;
 
 use crate::written_types::arrays::in_arrays;
-use constant_folding::name_resolution::Scope;
+use name_resolution::Scope;
 use plc_text::{NoMemory, Text};
 use st_rules::copied;
 use st_tree::{SimpleSpec, TypeSpec};

@@ -5,8 +5,8 @@ ghost use Rattle.st_tree.specs.Expression.{expression_of};
 ghost use Rattle.st_unit_rules.specs.declared_names.Constants as constants;
 ghost use Rattle.st_unit_rules.specs.declared_names.WrittenTypes as written;
 
-use constant_folding::name_resolution::Scope;
 use constant_folding::names_are_told;
+use name_resolution::Scope;
 use plc_text::NoMemory;
 use st_check_expr::check_constant;
 use st_operators::is_number;

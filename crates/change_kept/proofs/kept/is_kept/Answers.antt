@@ -1,6 +1,6 @@
 use Rattle.std.proofs.Common.{Some, None, sym, ap, ◌∙◌}
 use Rattle.st_values.specs.View.{program_of, region_of}
-use Rattle.change_names.specs.change_paths.Regions.{number_at}
+use Rattle.change_names.specs.Regions.{number_at}
 use Rattle.shape_trees.specs.Shape.{shape_of}
 use Rattle.change_kept.proofs.KeptLaws.{region_at, no_region, no_old, no_shape, no_old_shape, is_anew, is_equal}
 use Rattle.change_kept.proofs.kept.is_kept.Goals as goal

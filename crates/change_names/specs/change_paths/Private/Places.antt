@@ -4,7 +4,7 @@ use Rattle.st_rules.specs.Named.{first_place}
 use Rattle.program_tables.specs.declared.st_initial.variables.Variable as held
 use Rattle.program_tables.specs.st_initial.Members.{list_at}
 use Rattle.program_tables.specs.st_initial.Variables.{variables_of}
-use Rattle.change_names.specs.Places.{Table, found_in}
+use Rattle.change_names.specs.change_pairs.Places.{Table, found_in}
 use Rattle.shape_trees.specs.Numbers.{names_of}
 use Rattle.change_names.specs.change_paths.Numbers.{found_at}
 use Rattle.std.specs.Prelude.{slice_get}

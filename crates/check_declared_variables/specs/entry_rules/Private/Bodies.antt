@@ -8,7 +8,7 @@ use Rattle.st_tree.specs.declared.unit.Decl.{Decl}
 use Rattle.st_rules.specs.Faults.{least, earlier}
 use Rattle.st_unit_rules.specs.Checked.{TypedTypeBody}
 use Rattle.st_unit_rules.specs.DeclarationRules.{type_body_faults, body_depth}
-use Rattle.check_declared_variables.specs.variable_rules.CheckedType.{CheckedType}
+use Rattle.check_declared_variables.specs.declared.type_rules.types.CheckedType.{CheckedType}
 use Rattle.check_declared_variables.specs.declared.entry_rules.bodies.CheckedBody.{CheckedBody}
 use Rattle.check_declared_variables.specs.declared.entry_rules.groups.CheckedGroups.{CheckedGroups}
 

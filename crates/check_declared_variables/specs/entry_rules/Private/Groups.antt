@@ -9,7 +9,7 @@ use Rattle.st_unit_rules.specs.declared_names.Declarations.{item_line_of}
 use Rattle.st_unit_rules.specs.declared_names.WrittenTypes.{type_written, type_faults}
 use Rattle.st_unit_rules.specs.Checked.{Each, TypedGroup}
 use Rattle.st_unit_rules.specs.VariableRules.{instance_out_of_place, initial_if_given}
-use Rattle.check_declared_variables.specs.variable_rules.CheckedType.{CheckedType}
+use Rattle.check_declared_variables.specs.declared.type_rules.types.CheckedType.{CheckedType}
 use Rattle.check_declared_variables.specs.declared.variable_rules.given.CheckedGiven.{CheckedGiven}
 use Rattle.check_declared_variables.specs.declared.entry_rules.groups.CheckedGroup.{CheckedGroup}
 use Rattle.check_declared_variables.specs.declared.entry_rules.groups.CheckedGroups.{CheckedGroups}

@@ -10,8 +10,8 @@ use Rattle.st_rules.specs.Expressions.{index_unsuited}
 use Rattle.st_unit_rules.specs.declared_names.WrittenTypes.{is_number_type, bound_value, bounds_faults, dimension_faults}
 use Rattle.st_unit_rules.specs.Initials.{outcome_target, with_note, typed_constant}
 use Rattle.st_unit_rules.specs.Checked.{TypedBounds}
-use Rattle.type_resolution.specs.written_types.Outcome.{outcome}
-use Rattle.check_initial_values.specs.Constant.{Constant}
+use Rattle.constant_folding.specs.constant_values.Outcome.{outcome}
+use Rattle.st_check_expr.specs.declared.constants.Constant.{Constant}
 use Rattle.check_initial_values.specs.Worth.{noted}
 use Rattle.check_declared_variables.specs.declared.type_rules.bounds.CheckedBound.{CheckedBound}
 use Rattle.check_declared_variables.specs.declared.type_rules.bounds.CheckedDimension.{CheckedDimension}

@@ -1,6 +1,6 @@
 -- A step along an edge.
 use Rattle.std.specs.Prelude.{ℕ, nat_eq, Bool, not, ◌&&◌, List}
-use Rattle.graph_cycles.specs.Edge.{Edge}
+use Rattle.graph_reach.specs.declared.threads.Edge.{Edge}
 use Rattle.graph_cycles.specs.Graph.{marked}
 
 -- a marked node that lies on no cycle

@@ -1,5 +1,5 @@
 use Rattle.std.proofs.Common.{◌++◌, List, sym, ap, subst, ◌∙◌}
-use Rattle.graph_cycles.specs.Edge.{Edge}
+use Rattle.graph_reach.specs.declared.threads.Edge.{Edge}
 use Rattle.graph_cycles.specs.Graph.{AreEdgesOf, marked}
 use Rattle.declared_graph.specs.Private.Edges.{out_at}
 use Rattle.declared_graph.specs.Private.Shared.{hub_outs}

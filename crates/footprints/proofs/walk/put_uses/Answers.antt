@@ -1,5 +1,5 @@
 use Rattle.st_values.specs.View.{program_of}
-use Rattle.footprints.specs.reached_routines.Uses.{use_of}
+use Rattle.body_uses.specs.Uses.{use_of}
 use Rattle.footprints.proofs.reached_routines.EnterLaws.{uses_left}
 use Rattle.footprints.proofs.PutLaws.{next}
 use Rattle.footprints.proofs.WalkLaws.{use_put}

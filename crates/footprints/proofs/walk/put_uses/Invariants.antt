@@ -1,6 +1,6 @@
 use Rattle.std.proofs.Common.{drop}
 use Rattle.st_values.specs.View.{program_of}
-use Rattle.footprints.specs.reached_routines.Uses.{uses_of}
+use Rattle.body_uses.specs.Uses.{uses_of}
 use Rattle.footprints.specs.Private.Puts.{Takes}
 use Rattle.footprints.specs.Private.Walk.{InUse, AreFollowed}
 use Rattle.footprints.proofs.walk.put_uses.Given as goal

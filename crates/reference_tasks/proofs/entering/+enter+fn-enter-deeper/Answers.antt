@@ -1,7 +1,7 @@
 use Rattle.std.proofs.Common.{map, arith}
 use Rattle.program_tables.proofs.st_initial.WalkLaws.{positive}
 use Rattle.st_values.specs.View.{program_of}
-use Rattle.reference_bodies.specs.Opening.{given_of}
+use Rattle.call_frames.specs.Opening.{given_of}
 use Rattle.program_tables.specs.Routine.{routine_of}
 use Rattle.run_state.specs.State.{frame_of, state_of}
 use Rattle.reference_bodies.proofs.EffectSteps.{shown_so}

@@ -2,8 +2,8 @@ use Rattle.std.proofs.Common.{map, sym, ap, ◌∙◌}
 use Rattle.st_tree.specs.declared.program.Program.{Program}
 use Rattle.program_tables.specs.st_initial.Variables.{variables_of}
 use Rattle.st_values.specs.View.{program_of}
-use Rattle.reference_bodies.specs.Opening.{given_of, opened}
-use Rattle.reference_bodies.specs.Tables.{locals_in}
+use Rattle.call_frames.specs.Opening.{given_of, opened}
+use Rattle.routine_tables.specs.Tables.{locals_in}
 use Rattle.run_state.specs.State.{state_of}
 use Rattle.reference_tasks.proofs.TaskLaws.{agrees_so}
 use Rattle.reference_tasks.proofs.entering.open_routine.Goals as goal

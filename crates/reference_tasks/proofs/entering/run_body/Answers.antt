@@ -6,7 +6,7 @@ use Rattle.st_meaning.specs.Statement.{effects}
 use Rattle.st_values.specs.View.{program_of}
 use Rattle.program_tables.specs.Routine.{routine_of}
 use Rattle.run_state.specs.State.{frame_of, state_of}
-use Rattle.reference_bodies.proofs.LoopSteps.{stopped}
+use Rattle.reference_values.proofs.LoopSteps.{stopped}
 use Rattle.reference_bodies.specs.Flow.{flow_of}
 use Rattle.reference_bodies.proofs.EffectSteps.{shown_so}
 use Rattle.reference_tasks.proofs.EnterLaws.{ends}

@@ -1,7 +1,7 @@
 use Rattle.std.proofs.Common.{refl, ◌∙◌}
 use Rattle.st_values.specs.View.{program_of}
 use Rattle.run_state.specs.State.{state_of}
-use Rattle.reference_bodies.proofs.LoopSteps.{next, halted}
+use Rattle.reference_values.proofs.LoopSteps.{next, halted}
 use Rattle.reference_tasks.proofs.TaskLaws.{programs_at, programs_end}
 use Rattle.reference_tasks.proofs.tasks.run_programs.Goals as goal
 

@@ -1,6 +1,6 @@
 use Rattle.std.proofs.Common.{ap, ◌∙◌}
 use Rattle.st_tree.specs.Statement.{statement_of, statement_of-Empty, statement_of-Assign, statement_of-Attempt, statement_of-Exit, statement_of-Continue, statement_of-Return, otherwise_of, otherwise_of-Nothing}
-use Rattle.st_check_body.proofs.st_body_parts.OkLaws.{when_ok}
+use Rattle.st_check_expr.proofs.OkLaws.{when_ok}
 use Rattle.st_check_body.proofs.ListLaws.{statements_begun, statements_next, statements_ended, branches_begun, branches_next, branches_ended, cases_begun, cases_next, cases_ended}
 use Rattle.st_check_body.proofs.NodeLaws.{statement_seen, all_statements_seen, call_seen, otherwise_seen, if_arm, case_arm, for_arm, while_arm, repeat_arm, branch_arm, case_branch_arm, else_arm}
 use Rattle.st_check_body.proofs.body.+body.Goals as goal

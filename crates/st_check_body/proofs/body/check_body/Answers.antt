@@ -1,6 +1,6 @@
 use Rattle.std.proofs.Common.{sym, ◌∙◌}
 use Rattle.std.proofs.lemmas.Result.{err_from_is_err_and}
-use Rattle.st_check_body.proofs.st_body_parts.WholeLaws.{nothing_broken, broken_first}
+use Rattle.st_check_expr.proofs.WholeLaws.{nothing_broken, broken_first}
 use Rattle.st_check_body.proofs.body.check_body.Goals as goal
 
 pub returns-in_err-x-clause-err : goal.returns-in_err-x-clause-err

@@ -2,7 +2,7 @@ use Rattle.std.proofs.Common.{◌≡◌, drop, false}
 use Rattle.st_tree.specs.Expression.{tails_of, selectors_of, expressions_of, arguments_of}
 use Rattle.st_rules.specs.Faults.{least}
 use Rattle.st_rules.specs.Expressions.{along_faults, typed_along, index_faults, typed_indices, argument_faults, typed_arguments}
-use Rattle.check_nodes.specs.Standing.{standing}
+use Rattle.check_places.specs.Standing.{standing}
 use Rattle.check_nodes.specs.Slots.{slots}
 use Rattle.st_check_expr.specs.Private.Rows.{Keeps, ahead_rest, row_rest}
 use Rattle.st_check_expr.specs.Private.Along.{along_rest}

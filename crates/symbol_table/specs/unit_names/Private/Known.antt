@@ -13,7 +13,7 @@ use Rattle.st_rules.specs.declared.names.DeclaredClass.{DeclaredClass}
 use Rattle.st_rules.specs.Classes.{classes_in}
 use Rattle.st_rules.specs.Numbered.{each_numbered}
 use Rattle.st_rules.specs.Scope.{Scope}
-use Rattle.type_resolution.specs.told_names.Tables.{Knows}
+use Rattle.name_resolution.specs.Tables.{Knows}
 use Rattle.st_unit_rules.specs.declared_names.WrittenTypes.{type_written}
 use Rattle.st_unit_rules.specs.declared_names.UnitNames.{unit_scope, class_declared}
 use Rattle.type_resolution.specs.told_locals.Around.{scope_around}

@@ -7,7 +7,7 @@ use Rattle.st_rules.specs.Classes.{classes_in}
 use Rattle.st_rules.specs.Scope.{Scope}
 use Rattle.st_unit_rules.specs.declared_names.UnitNames.{unit_names}
 use Rattle.section_rules.specs.Variables.{classes_of}
-use Rattle.symbol_table.specs.unit_names.Tables.{Told, Knows}
+use Rattle.name_resolution.specs.Tables.{Told, Knows}
 use Rattle.check_limits.specs.declared.type_sizes.sizes.TypeSizes.{TypeSizes}
 use Rattle.check_limits.specs.type_sizes.Sizes.{Measures}
 

@@ -15,7 +15,7 @@ use Rattle.name_resolution.specs.Tables.{Told, Knows}
 use Rattle.st_unit_rules.specs.declared_names.WrittenTypes.{type_written}
 use Rattle.st_unit_rules.specs.declared_names.UnitNames.{unit_scope, entry_kind}
 use Rattle.resolution_order.specs.told_laws.TellingLaws.{Sound}
-use Rattle.resolution_order.specs.telling_groups.Jobs.{Job, jobs_in, is_told_of, with_job, can_be_told, Tells}
+use Rattle.resolution_order.specs.telling_list.Jobs.{Job, jobs_in, is_told_of, with_job, can_be_told, Tells}
 use Rattle.resolution_order.specs.telling_groups.Groups.{Group, jobs_of_group}
 use Rattle.resolution_order.specs.telling_groups.Arranged.{Among}
 

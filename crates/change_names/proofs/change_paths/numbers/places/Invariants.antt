@@ -1,5 +1,5 @@
 use Rattle.plc_text.specs.Words.{same}
-use Rattle.change_names.proofs.PlaceLaws.{FromHere}
+use Rattle.change_names.proofs.change_pairs.PlaceLaws.{FromHere}
 use Rattle.change_names.proofs.change_paths.numbers.places.Given as goal
 
 abbrev pub invariant-variables : goal.invariant-variables

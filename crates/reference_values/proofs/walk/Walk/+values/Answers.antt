@@ -4,9 +4,9 @@ use Rattle.st_tree.specs.Expression.{expression_of, expression_of-Int, expressio
 use Rattle.st_meaning.specs.Enter.{enter}
 use Rattle.st_meaning.specs.Expression.{along, indexed}
 use Rattle.st_values.specs.View.{program_of}
-use Rattle.call_steps.specs.Opening.{given_of}
+use Rattle.call_frames.specs.Opening.{given_of}
 use Rattle.call_steps.specs.Callee.{callee_seen}
-use Rattle.call_steps.specs.Parameters.{parameters_of}
+use Rattle.routine_tables.specs.Parameters.{parameters_of}
 use Rattle.run_state.specs.State.{frame_of, spot_of, state_of}
 use Rattle.value_trees.specs.Value.{value_of}
 use Rattle.reference_values.specs.Private.Parts.{called_of}

@@ -3,8 +3,8 @@ use Rattle.st_tree.specs.Expression.{arguments_of, expressions_of, selectors_of,
 use Rattle.st_meaning.specs.Enter.{enter}
 use Rattle.st_meaning.specs.Expression.{along, arguments, chained, indexed, outputs}
 use Rattle.st_values.specs.View.{program_of}
-use Rattle.call_steps.specs.Opening.{given_of}
-use Rattle.call_steps.specs.Parameters.{parameters_of}
+use Rattle.call_frames.specs.Opening.{given_of}
+use Rattle.routine_tables.specs.Parameters.{parameters_of}
 use Rattle.run_state.specs.State.{base_of, frame_of, spot_of, state_of}
 use Rattle.value_trees.specs.Value.{value_of}
 use Rattle.reference_values.proofs.ArgumentLaws.{behind}

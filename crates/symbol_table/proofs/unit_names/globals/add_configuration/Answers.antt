@@ -1,7 +1,7 @@
 use Rattle.std.proofs.Common.{List, ℕ, None, false, subst}
 use Rattle.st_tree.specs.declared.declaration.Section.{Section}
 use Rattle.st_unit_rules.specs.declared_names.Variables.{sections_written}
-use Rattle.type_resolution.specs.told_locals.Globals.{AddsGlobals}
+use Rattle.type_resolution.specs.declared_variables.Globals.{AddsGlobals}
 use Rattle.symbol_table.specs.unit_names.Private.Known.{scope_in}
 use Rattle.symbol_table.proofs.unit_names.GlobalLaws.{configuration_added}
 use Rattle.symbol_table.proofs.unit_names.globals.add_configuration.Goals as goal

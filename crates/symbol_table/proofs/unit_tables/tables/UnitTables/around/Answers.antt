@@ -1,7 +1,7 @@
 use Rattle.std.proofs.Common.{sym, ◌∙◌, subst}
 use Rattle.st_tree.specs.declared.unit.Unit.{Unit}
 use Rattle.st_rules.specs.Classes.{classes_in}
-use Rattle.symbol_table.specs.unit_names.Tables.{Knows}
+use Rattle.name_resolution.specs.Tables.{Knows}
 use Rattle.symbol_table.proofs.unit_tables.tables.UnitTables.around.Goals as goal
 
 pub returns-clause-around : goal.returns-clause-around
