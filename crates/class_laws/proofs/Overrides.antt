@@ -68,27 +68,35 @@ module _ {V : Type 0} (same_value : V → V → Bool) (classes : List (ClassDecl
                   let o : over' ≡ Some over = ap (inherited same_value classes signatures c) n ∙ h in
                   subst (λ y. differ same_value (signature_of signatures y) (signature_of signatures over) ≡ false) w (subst (λ y. has_other_signature same_value classes signatures (method_id c j) y ≡ false) o r)
 
+  -- by any relation that a method found has to itself, and one of equal signature to the one that it overrides
+  module _ (R : MethodId → MethodId → Type 0) (itself : (c : ℕ) (name : List ℕ) (i : MethodId) → lookup classes c name ≡ Some i → R i i) (through : (i j k : MethodId) → R i j → R j k → R i k)
+      (like : (c b : ℕ) (name : List ℕ) (i j : MethodId) → own_method classes name c ≡ Some i → lookup classes b name ≡ Some j → differ same_value (signature_of signatures i) (signature_of signatures j) ≡ false → R i j)
+    where
+      -- from a base to the class above which it stands
+      step : (c b : ℕ) (name : List ℕ) (j : MethodId) → base_of classes c ≡ Some b → lookup classes b name ≡ Some j → (i : MethodId) × (lookup classes c name ≡ Some i) × R i j
+      step c b name j e h = by (own_method classes name c) refl
+        where
+          base : option_and_then (λ x. lookup classes x name) (base_of classes c) ≡ Some j
+          base = ap (option_and_then (λ x. lookup classes x name)) e ∙ h
+
+          by : (o : Option MethodId) → own_method classes name c ≡ o → (i : MethodId) × (lookup classes c name ≡ Some i) × R i j
+          by None q = (j, lookup_law classes c name ∙ (ap (λ o. o or_else option_and_then (λ x. lookup classes x name) (base_of classes c)) q ∙ base), itself b name j h)
+          by (Some i) q = (i, lookup_law classes c name ∙ ap (λ o. o or_else option_and_then (λ x. lookup classes x name) (base_of classes c)) q, like c b name i j q h (own_like c name i j q base))
+
+      above_found : (d c : ℕ) (name : List ℕ) (j : MethodId) → IsAbove (base_of classes) d c → lookup classes d name ≡ Some j → (i : MethodId) × (lookup classes c name ≡ Some i) × R i j
+      above_found _ _ name j (directly c b e) h = step c b name j e h
+      above_found _ _ name j (further c b d e r) h =
+          let q = above_found d b name j r h in
+          let z = step c b name q.0 e q.1 in
+          (z.0, z.1, through z.0 q.0 j z.2 q.2)
+
+      pub chain_found : (c d : ℕ) (name : List ℕ) (j : MethodId) → is_among d (chain classes c) ≡ true → lookup classes d name ≡ Some j → (i : MethodId) × (lookup classes c name ≡ Some i) × R i j
+      chain_found c d name j h e = elim ((chain_law classes c d).0 h) [
+        | inl q ↦ (j, ap (λ x. lookup classes x name) (sym q) ∙ e, itself d name j e)
+        | inr q ↦ above_found d c name j q e
+      ]
+
+  -- by one that each method has to itself, and all of equal signature
   module _ (R : MethodId → MethodId → Type 0) (itself : (i : MethodId) → R i i) (through : (i j k : MethodId) → R i j → R j k → R i k) (like : (i j : MethodId) → differ same_value (signature_of signatures i) (signature_of signatures j) ≡ false → R i j) where
-    -- from a base to the class above which it stands
-    step : (c b : ℕ) (name : List ℕ) (j : MethodId) → base_of classes c ≡ Some b → lookup classes b name ≡ Some j → (i : MethodId) × (lookup classes c name ≡ Some i) × R i j
-    step c b name j e h = by (own_method classes name c) refl
-      where
-        base : option_and_then (λ x. lookup classes x name) (base_of classes c) ≡ Some j
-        base = ap (option_and_then (λ x. lookup classes x name)) e ∙ h
-
-        by : (o : Option MethodId) → own_method classes name c ≡ o → (i : MethodId) × (lookup classes c name ≡ Some i) × R i j
-        by None q = (j, lookup_law classes c name ∙ (ap (λ o. o or_else option_and_then (λ x. lookup classes x name) (base_of classes c)) q ∙ base), itself j)
-        by (Some i) q = (i, lookup_law classes c name ∙ ap (λ o. o or_else option_and_then (λ x. lookup classes x name) (base_of classes c)) q, like i j (own_like c name i j q base))
-
-    pub above_like : (d c : ℕ) (name : List ℕ) (j : MethodId) → IsAbove (base_of classes) d c → lookup classes d name ≡ Some j → (i : MethodId) × (lookup classes c name ≡ Some i) × R i j
-    above_like _ _ name j (directly c b e) h = step c b name j e h
-    above_like _ _ name j (further c b d e r) h =
-        let q = above_like d b name j r h in
-        let z = step c b name q.0 e q.1 in
-        (z.0, z.1, through z.0 q.0 j z.2 q.2)
-
     pub chain_like : (c d : ℕ) (name : List ℕ) (j : MethodId) → is_among d (chain classes c) ≡ true → lookup classes d name ≡ Some j → (i : MethodId) × (lookup classes c name ≡ Some i) × R i j
-    chain_like c d name j h e = elim ((chain_law classes c d).0 h) [
-      | inl q ↦ (j, ap (λ x. lookup classes x name) (sym q) ∙ e, itself j)
-      | inr q ↦ above_like d c name j q e
-    ]
+    chain_like c d name j h e = chain_found R (λ b n i q. itself i) through (λ a b n i k q r s. like i k s) c d name j h e

@@ -5,3 +5,6 @@ pub mod Globals
 pub mod Fields
 pub mod Kinds
 pub mod Routines
+pub mod Found
+pub mod Texts
+pub mod Entered
