@@ -221,7 +221,7 @@ module _ (most : ℕ) (decls : List (Decl ℕ)) (p : Checked) (checked : IsCheck
 
   -- ---- where methods are looked up
 
-  above_range : (d c : ℕ) → IsAbove (base_of xs) d c → c < length xs
+  pub above_range : (d c : ℕ) → IsAbove (base_of xs) d c → c < length xs
   above_range _ _ (directly c b e) = ((bases_within xs).within c b e).0
   above_range _ _ (further c b d e r) = ((bases_within xs).within c b e).0
 

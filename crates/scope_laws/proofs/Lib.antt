@@ -8,3 +8,5 @@ pub mod Routines
 pub mod Found
 pub mod Texts
 pub mod Entered
+pub mod Blocks
+pub mod Scopes

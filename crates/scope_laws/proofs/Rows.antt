@@ -42,12 +42,12 @@ instance_inside sort.Input h = (refl, refl, refl)
 instance_inside sort.Output h = (refl, refl, refl)
 instance_inside _ h = cc
 
-body_inside : (x : SectionSort) → is_body_sort x ≡ true → (is_kept x ≡ false) × (is_of_body x ≡ true) × (is_external x ≡ false)
+pub body_inside : (x : SectionSort) → is_body_sort x ≡ true → (is_kept x ≡ false) × (is_of_body x ≡ true) × (is_external x ≡ false)
 body_inside sort.InOut h = (refl, refl, refl)
 body_inside sort.Temp h = (refl, refl, refl)
 body_inside _ h = cc
 
-outside : (x : SectionSort) → is_global x ≡ false → is_instance_sort x ≡ false → is_body_sort x ≡ false → is_external x ≡ true
+pub outside : (x : SectionSort) → is_global x ≡ false → is_instance_sort x ≡ false → is_body_sort x ≡ false → is_external x ≡ true
 outside sort.External h i j = refl
 outside _ h i j = cc
 
