@@ -45,7 +45,7 @@ use Rattle.class_laws.proofs.Above.{NoCycle}
 use Rattle.place_laws.specs.Agrees.{HasPlace, Agrees}
 use Rattle.scope_laws.proofs.Entered.{Meets}
 use Rattle.scope_laws.proofs.Found.{MethodShown}
-use Rattle.scope_laws.proofs.Kinds.{KindFine, ToldFine, written_fine, rows_fine}
+use Rattle.scope_laws.proofs.PlaceTypes.{KindFine, ToldFine, written_fine, rows_fine}
 use Rattle.scope_laws.proofs.Members.{class_typed, body_locals}
 use Rattle.scope_laws.proofs.Routines.{kind_seen, local_placed}
 use Rattle.scope_laws.proofs.Rows.{From, outside, MemberRow, members_seen, found_named}

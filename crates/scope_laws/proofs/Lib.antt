@@ -3,7 +3,7 @@ pub mod Stands
 pub mod Members
 pub mod Globals
 pub mod Fields
-pub mod Kinds
+pub mod PlaceTypes
 pub mod Routines
 pub mod Found
 pub mod Texts
