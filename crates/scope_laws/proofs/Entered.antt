@@ -40,7 +40,7 @@ use Rattle.st_values.specs.View as view
 use Rattle.st_values.specs.View.{method_of, function_of, class_of, program_of}
 use Rattle.st_meaning.specs.st_frame.Footprint.{Enters, by_number, by_class, by_text}
 use Rattle.st_meaning.specs.st_frame.Use.{Called, the_function, a_method_of, a_method_from, called_parameters}
-use Rattle.st_meaning.specs.st_frame.Promise.Calls.{HasInstance, IsLiving, Answers, most_parameters}
+use Rattle.st_meaning.specs.st_frame.Promise.Calls.{IsLiving, Answers, most_parameters}
 use Rattle.accepted_texts.specs.formed_units.Formed.{IsFormed}
 use Rattle.accepted_texts.specs.told_units.Told.{AllIsTold}
 use Rattle.accepted_texts.proofs.unfolding_laws.ListLaws.{There, there_below, if_there, each_get, from_long}
@@ -49,6 +49,7 @@ use Rattle.class_laws.proofs.Above.{ClassAt, ProgramAt, at_number, only_one, the
 use Rattle.class_laws.proofs.Overrides.{chain_found}
 use Rattle.class_laws.proofs.Signed.{parameters_same}
 use Rattle.place_laws.specs.Agrees.{Declares, Fills, FillsBy, TakesBy, Gives, ToldOutcome, Runs}
+use Rattle.scope_laws.specs.Agreement.{MeetsInterfaces}
 use Rattle.scope_laws.proofs.Found.{same_is, is_same, MethodShown, OwnFound, own_found, LookedUp, looked_up, PrototypeShown, PrototypeFound, prototype_found}
 use Rattle.scope_laws.proofs.Routines.{routine, declared_takes, routine_takes, few_parameters, told_result, routine_gives}
 use Rattle.scope_laws.proofs.Texts.{IsText, method_text, function_text, prototype_text, SameParameter, AlikeRoutines, alike_itself, alike_through, texts_alike, method_there, prototype_there, method_signature, interface_signature}
@@ -376,16 +377,11 @@ module _ (most : ℕ) (decls : List (Decl ℕ)) (p : Checked) (checked : IsCheck
               x.typed.result z.typed.result x.typed.sections z.typed.sections e;
         }
 
-    -- a class that has an instance meets the interfaces to which it conforms
-    abbrev pub Meets : Type 0
-    Meets = (c i : ℕ) (name : List ℕ) (id : PrototypeId) → HasInstance pp c → conforms pp c (type.Interface i) ≡ true → interface_lookup (interfaces_in decls) i name ≡ Some id
-        → (k : MethodId) × (lookup xs c name ≡ Some k) × (differ same_worth (signature_of (signatures decls) k) (prototype_signature (signatures decls) id) ≡ false)
-
-    module _ (meets : Meets) where
+    module _ (meets : MeetsInterfaces decls p) where
       interface_enters : (i : ℕ) (name : List ℕ) (id : PrototypeId) → interface_lookup (interfaces_in decls) i name ≡ Some id → (z : PrototypeFound decls p checked i name id) → (x : Routine) (n : Enters pp (a_method_of (type.Interface i) name) x) → IsLiving pp n
           → Suits (a_method_of (type.Interface i) name) (prototype_declared decls (unit_names decls) z.prototype.prototype) x
       interface_enters i name id e z x (by_class c m f) l =
-          let k = meets c i name id l m e in
+          let k = meets.by c i name id l m e in
           let y = found_at c name k.0 k.1 in
           let b = both_alike k.0 y.method id z.prototype k.2 in
           subst (Suits (a_method_of (type.Interface i) name) (prototype_declared decls (unit_names decls) z.prototype.prototype)) (some-same (sym y.is ∙ f))
@@ -401,7 +397,7 @@ module _ (most : ℕ) (decls : List (Decl ℕ)) (p : Checked) (checked : IsCheck
             r,
             prototype_there decls (unit_scope decls (unit_names decls)) refl id x.interface x.prototype x.interface_there x.there,
             record {
-              found = ((z.place, view.signature_of x.shown, z.there, is_same x.shown.name.text name z.name_is), λ c l h. let k = meets c i name id l h e in let y = found_at c name k.0 k.1 in (method_of (k.0).class y.method.shown, y.is));
+              found = ((z.place, view.signature_of x.shown, z.there, is_same x.shown.name.text name z.name_is), λ c l h. let k = meets.by c i name id l h e in let y = found_at c name k.0 k.1 in (method_of (k.0).class y.method.shown, y.is));
               told = facts.1;
               declared = subst (TakesBy pp None r.parameters) (sym z.parameters) facts.0;
               enters = interface_enters i name id e z;

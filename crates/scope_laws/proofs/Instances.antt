@@ -43,13 +43,13 @@ use Rattle.accepted_texts.proofs.sized_units.Kept.{program_variables}
 use Rattle.accepted_texts.proofs.sized_units.Variables.{all_of}
 use Rattle.class_laws.proofs.Above.{NoCycle}
 use Rattle.place_laws.specs.Agrees.{HasPlace, Agrees}
-use Rattle.scope_laws.proofs.Entered.{Meets}
+use Rattle.scope_laws.specs.Agreement.{HasNumbers, MeetsInterfaces}
 use Rattle.scope_laws.proofs.Found.{MethodShown}
 use Rattle.scope_laws.proofs.PlaceTypes.{KindFine, ToldFine, written_fine, rows_fine}
 use Rattle.scope_laws.proofs.Members.{class_typed, body_locals}
 use Rattle.scope_laws.proofs.Routines.{kind_seen, local_placed}
 use Rattle.scope_laws.proofs.Rows.{From, outside, MemberRow, members_seen, found_named}
-use Rattle.scope_laws.proofs.Scopes.{HasNumbers, agrees}
+use Rattle.scope_laws.proofs.Scopes.{agrees}
 use Rattle.scope_laws.proofs.Stands.{sections_inside, program_stands}
 use Rattle.scope_laws.proofs.Texts.{IsText, method_text, function_text}
 
@@ -57,7 +57,7 @@ all_from : (vs : List Variable) → From vs vs 0
 all_from vs = record { by = λ j v e. let z : 0 + j ≡ j = omega arith in ap (slice_get vs) z ∙ e }
 
 module _ (most : ℕ) (decls : List (Decl ℕ)) (p : Checked) (checked : IsChecked decls p) (well : IsFormed most decls) (good : BreaksNothing decls) (all : AllIsTold decls) (free : NoCycle p)
-    (rules_good : (c : ℕ) → class_faults same_worth (classes_in decls) (signatures decls) c ≡ []) (meets : Meets most decls p checked well good all rules_good)
+    (rules_good : (c : ℕ) → class_faults same_worth (classes_in decls) (signatures decls) c ≡ []) (meets : MeetsInterfaces decls p)
   where
     abbrev pp : seen.Program
     pp = program_of p

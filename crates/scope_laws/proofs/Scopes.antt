@@ -40,7 +40,6 @@ use Rattle.st_rules.specs.Scope.{Scope, Meant, a_variable, a_function, an_enumer
 use Rattle.st_rules.specs.Scope as rules
 use Rattle.st_rules.proofs.Booleans.{none≢some, some-same, true≢false, false≢true, either, neither, or-first, or-second}
 use Rattle.st_rules.proofs.ClassLaws.{bases_within, chain_law}
-use Rattle.st_unit_rules.specs.declared_names.Constants as constants
 use Rattle.st_unit_rules.specs.declared_names.Declarations.{functions_in, of_global}
 use Rattle.st_unit_rules.specs.declared_names.UnitNames.{unit_names, unit_scope, class_scope, class_declared}
 use Rattle.st_unit_rules.specs.declared_names.Variables as written
@@ -72,20 +71,15 @@ use Rattle.class_laws.proofs.Narrow as Narrow
 use Rattle.class_laws.proofs.Same.{assignable_same, bindable_same}
 use Rattle.place_laws.specs.Agrees.{Runs, ConstantIs, OneOf, HasPlace, EntryIs, MethodIs, PrototypeIs, MeantIs, FieldAgrees, MemberAgrees, Agrees, TakesBy}
 use Rattle.place_laws.proofs.Places.{told_as}
+use Rattle.scope_laws.specs.Agreement.{HasNumbers, MeetsInterfaces}
 use Rattle.scope_laws.proofs.Blocks as Blocks
-use Rattle.scope_laws.proofs.Entered.{Meets, lookup_range, function_runs, method_runs, interface_runs}
+use Rattle.scope_laws.proofs.Entered.{lookup_range, function_runs, method_runs, interface_runs}
 use Rattle.scope_laws.proofs.Fields.{field_shown}
 use Rattle.scope_laws.proofs.Globals.{GlobalAt, globals_are}
 use Rattle.scope_laws.proofs.PlaceTypes.{KindFine, place_named}
 use Rattle.scope_laws.proofs.Members.{class_typed, body_locals, class_rows, locals_above}
 use Rattle.scope_laws.proofs.Routines.{told_there, kind_seen}
 use Rattle.scope_laws.proofs.Rows.{outside, SeenAt, MemberRow, found_row, found_named, every_named}
-
--- what constants and enumerators come to in a scope
-pub record HasNumbers (p : seen.Program) (s : Scope) : Type 0 where
-  pub constant : (called : Bool) (name : List ℕ) (c : Option ℕ) (v : DeclaredVariable) → sought s called name ≡ Some (a_variable c v) → v.constant ≡ true → constants.is_told v.target ≡ true → (t : StType) → v.kind ≡ Some t → ConstantIs p v.target t
-  pub enumerator : (called : Bool) (name : List ℕ) (n k : ℕ) → sought s called name ≡ Some (an_enumerator n k) → NumberIs p (type.Enumeration n) (pos k)
-  pub value : (n : ℕ) (name : List ℕ) (k : ℕ) → value_of s n name ≡ Some k → NumberIs p (type.Enumeration n) (pos k)
 
 -- ---- in-outs among parameters
 
@@ -191,7 +185,7 @@ hash_told name (t ∷ ts) h e = by (same t.name name) (hash_told name ts h.1) e
     by false k f = k f
 
 module _ (most : ℕ) (decls : List (Decl ℕ)) (p : Checked) (checked : IsChecked decls p) (well : IsFormed most decls) (good : BreaksNothing decls) (all : AllIsTold decls) (free : NoCycle p)
-    (rules_good : (c : ℕ) → class_faults same_worth (classes_in decls) (signatures decls) c ≡ []) (meets : Meets most decls p checked well good all rules_good)
+    (rules_good : (c : ℕ) → class_faults same_worth (classes_in decls) (signatures decls) c ≡ []) (meets : MeetsInterfaces decls p)
   where
     abbrev pp : seen.Program
     pp = program_of p

@@ -33,6 +33,7 @@ use Rattle.st_rules.specs.declared.signature.ResultType.TheVariants as outcome
 use Rattle.st_rules.specs.declared.signature.Signature.{Signature}
 use Rattle.st_rules.specs.Calls as calls
 use Rattle.st_rules.specs.Classes.{classes_in, methods_in}
+use Rattle.st_rules.specs.ClassRules.{class_faults, class_faults_of}
 use Rattle.st_rules.specs.Interfaces.{interfaces_in}
 use Rattle.st_rules.specs.Modifiers.{is_constant}
 use Rattle.st_rules.specs.Scope.{Scope, is_external, method_routine, prototype_routine}
@@ -46,7 +47,7 @@ use Rattle.st_unit_rules.specs.declared_names.UnitNames.{unit_names, unit_scope,
 use Rattle.st_unit_rules.specs.declared_names.Variables.{Written, item_written, section_written, sections_written, is_parameter_written, declares_constants, result_declared, result_count, locals_declared, routine_locals}
 use Rattle.st_unit_rules.specs.declared_names.WrittenTypes.{type_written}
 use Rattle.st_unit_rules.specs.Checked.{Each}
-use Rattle.st_unit_rules.specs.DeclarationRules.{count_parameters, parameter_limits, local_limits, routine_faults, item_too_deep, items_in, result_too_deep, signatures, signature_in, class_signatures, interface_signatures}
+use Rattle.st_unit_rules.specs.DeclarationRules.{count_parameters, parameter_limits, local_limits, routine_faults, item_too_deep, items_in, result_too_deep, class_declaration_faults, signatures, signature_in, class_signatures, interface_signatures}
 use Rattle.st_unit_rules.specs.NameRules.{local_name_faults, word_twice}
 use Rattle.st_unit_rules.specs.UnitRefusal.{BreaksNothing}
 use Rattle.st_unit_rules.specs.VariableRules.{of_routine, of_prototype, sections_faults, result_faults}
@@ -64,6 +65,7 @@ use Rattle.accepted_texts.proofs.unfolding_laws.ListLaws.{every_append, every_ma
 use Rattle.accepted_texts.proofs.told_units.Classes.{every-filtered}
 use Rattle.accepted_texts.proofs.told_units.Inner.{AreRows, IsRow, locals-rows}
 use Rattle.accepted_texts.proofs.told_units.Law.{function-rules, method-rules, prototype-rules}
+use Rattle.accepted_texts.proofs.told_units.Whole.{class-rules}
 use Rattle.accepted_texts.proofs.sized_units.Variables.{each_append}
 use Rattle.class_laws.proofs.Signed.{sort_same}
 use Rattle.scope_laws.proofs.Routines.{told_there}
@@ -150,6 +152,25 @@ module _ (most : ℕ) (decls : List (Decl ℕ)) (well : IsFormed most decls) (go
       written_text s m.name.text m.result m.sections (in_prototype x.place x.item d j m x.there x.is f)
       (local_laws.routine (unit_scope decls (unit_names decls)) m.name.text m.result m.sections).settled
       (sections_inside m.sections (prototype_formed most decls well i d j m e f).sections) (limited s m.line m.result m.sections rules.1)
+
+-- ---- bases and methods of classes
+
+pub class_rules_good : (decls : List (Decl ℕ)) → BreaksNothing decls → (c : ℕ) → class_faults same_worth (classes_in decls) (signatures decls) c ≡ []
+class_rules_good decls good c = by (slice_get (classes_in decls) c) refl
+  where
+    declared : (i : ℕ) (d : ClassDecl ℕ) → class_declaration_faults decls i c d ≡ [] → class_faults same_worth (classes_in decls) (signatures decls) c ≡ []
+    declared i d h =
+        let body = none_in _ _ h in
+        let limits = none_in _ _ body.0 in
+        let methods = none_in _ _ limits.0 in
+        let cycles = none_in _ _ methods.0 in
+        let sections = none_in _ _ cycles.0 in
+        let concrete = none_in _ _ sections.0 in
+        (none_in _ (class_faults same_worth (classes_in decls) (signatures decls) c) concrete.0).1
+
+    by : (o : Option (ClassDecl ℕ)) → slice_get (classes_in decls) c ≡ o → class_faults same_worth (classes_in decls) (signatures decls) c ≡ []
+    by None e = ap (class_faults_of same_worth (classes_in decls) (signatures decls) c) e
+    by (Some d) e = let r = class-rules decls good c d e in declared r.0 d r.1
 
 -- ---- lists item by item
 
