@@ -142,17 +142,35 @@ module _ (decls : List (Decl ℕ)) where
   instances_long [] = refl
   instances_long (x ∷ xs) = ap suc (instances_long xs)
 
+  -- a declaration that is no configuration has no instances
+  abbrev IsPlain : Decl ℕ → Type 0
+  IsPlain (declaration.Configuration c) = ⊥
+  IsPlain _ = Unit {0}
+
+  no_instances : (b : Bool) (d : Decl ℕ) → IsPlain d → instances_of b d ≡ []
+  no_instances false d h = refl
+  no_instances true (declaration.Types l ts) h = refl
+  no_instances true (declaration.Globals s) h = refl
+  no_instances true (declaration.Interface d) h = refl
+  no_instances true (declaration.Class d) h = refl
+  no_instances true (declaration.Function d) h = refl
+  no_instances true (declaration.Program d) h = refl
+  no_instances true (declaration.Configuration c) h = absurd h
+
+  plain_rest : (e : List Declaration) (d : Decl ℕ) (ds : List (Decl ℕ)) (r : ℕ) → IsPlain d → Rest e (d ∷ ds) r → Behind Region (unit_regions decls) (flat_map regions_of (declarations_of d) ++ regions_from decls (e ++ declarations_of d) ds) r
+  plain_rest e d ds r i h = subst (λ l. Behind Region (unit_regions decls) (flat_map regions_of (declarations_of d) ++ (l ++ regions_from decls (e ++ declarations_of d) ds)) r) (no_instances (is_first_configuration e) d i) h
+
   globals_at : (e : List Declaration) (b : List (List ℕ)) (q : List Region) (ds : List (Decl ℕ)) (r k : ℕ) → Every FirstPlaced (placed_from e b q ds) → Rest e ds r → Functions ds k → Every GlobalAt (globals_from decls (unit_names decls) r k ds)
   globals_at e b q [] r k f h g = tt
   globals_at e b q (declaration.Globals s ∷ ds) r k f h g =
       let rest = regions_from decls (e ++ globals_of_section s) ds in
       let own : flat_map regions_of (globals_of_section s) ≡ flat_map region_of_global (sections_written (s ∷ [])) = ap (flat_map regions_of) (sym (append-nil (globals_of_section s))) ∙ sections_regions (s ∷ []) in
-      let t = variables_at (sections_written (s ∷ [])) r rest (subst (λ l. Behind Region (unit_regions decls) (l ++ rest) r) own h) in
+      let t = variables_at (sections_written (s ∷ [])) r rest (subst (λ l. Behind Region (unit_regions decls) (l ++ rest) r) own (plain_rest e (declaration.Globals s) ds r tt h)) in
       every_append GlobalAt (variables_declared decls (unit_names decls) r (sections_written (s ∷ []))) (globals_from decls (unit_names decls) (r + region_count decls (unit_names decls) (sections_written (s ∷ []))) k ds) t.each
       (globals_at (e ++ globals_of_section s) _ _ ds (r + region_count decls (unit_names decls) (sections_written (s ∷ []))) k (every_back FirstPlaced (place_each e b q (globals_of_section s)) _ f) t.behind g)
   globals_at e b q (declaration.Function x ∷ ds) r k f h g = (
     (x, behind_here (functions_in decls) (functions_in ds) k x g, refl),
-    globals_at (e ++ a_function x ∷ []) _ _ ds r (suc k) f.1 h (behind_next (functions_in decls) (functions_in ds) k x g),
+    globals_at (e ++ a_function x ∷ []) _ _ ds r (suc k) f.1 (plain_rest e (declaration.Function x) ds r tt h) (behind_next (functions_in decls) (functions_in ds) k x g),
   )
   globals_at e b q (declaration.Configuration c ∷ ds) r k f h g =
       let ws = sections_written (configuration_globals c) in
@@ -170,10 +188,10 @@ module _ (decls : List (Decl ℕ)) where
       (subst (Behind Region (unit_regions decls) rest) z (behind_part (unit_regions decls) instances rest (r + n) t.behind)) g)
   globals_at e b q (declaration.Types l ts ∷ ds) r k f h g =
       let rest = regions_from decls (e ++ map an_entry ts) ds in
-      globals_at (e ++ map an_entry ts) _ _ ds r k (every_back FirstPlaced (place_each e b q (map an_entry ts)) _ f) (subst (λ l. Behind Region (unit_regions decls) (l ++ rest) r) (none_entries ts) h) g
-  globals_at e b q (declaration.Interface d ∷ ds) r k f h g = globals_at (e ++ an_interface d ∷ []) _ _ ds r k f.1 h g
-  globals_at e b q (declaration.Class d ∷ ds) r k f h g = globals_at (e ++ a_class d ∷ []) _ _ ds r k f.1 h g
-  globals_at e b q (declaration.Program d ∷ ds) r k f h g = globals_at (e ++ a_program d ∷ []) _ _ ds r k f.1 h g
+      globals_at (e ++ map an_entry ts) _ _ ds r k (every_back FirstPlaced (place_each e b q (map an_entry ts)) _ f) (subst (λ l. Behind Region (unit_regions decls) (l ++ rest) r) (none_entries ts) (plain_rest e (declaration.Types l ts) ds r tt h)) g
+  globals_at e b q (declaration.Interface d ∷ ds) r k f h g = globals_at (e ++ an_interface d ∷ []) _ _ ds r k f.1 (plain_rest e (declaration.Interface d) ds r tt h) g
+  globals_at e b q (declaration.Class d ∷ ds) r k f h g = globals_at (e ++ a_class d ∷ []) _ _ ds r k f.1 (plain_rest e (declaration.Class d) ds r tt h) g
+  globals_at e b q (declaration.Program d ∷ ds) r k f h g = globals_at (e ++ a_program d ∷ []) _ _ ds r k f.1 (plain_rest e (declaration.Program d) ds r tt h) g
 
   -- ---- all of them
 

@@ -1,5 +1,5 @@
 -- The types of places in a unit have numbers of what the unit declares, so that the class or interface that a reference names is there.
-use Rattle.std.proofs.Common.{◌≡◌, ℕ, zero, suc, Bool, true, false, List, [], ◌∷◌, Option, Some, None, refl, sym, ap, ◌∙◌, subst, inl, inr, ◌⊎◌}
+use Rattle.std.proofs.Common.{◌≡◌, ℕ, ℤ, zero, suc, Bool, true, false, List, [], ◌∷◌, Option, Some, None, refl, sym, ap, ◌∙◌, subst, inl, inr, ◌⊎◌}
 use Rattle.std.specs.Prelude.{if◌then◌else◌, filter, option_map, option_and_then, slice_get}
 use Rattle.std.specs.Option.{is_none}
 use Rattle.plc_text.specs.Words.{same}
@@ -28,7 +28,7 @@ use Rattle.st_rules.specs.Classes.{classes_in, base_of, chain, lookup}
 use Rattle.st_rules.specs.Numbered.{each_numbered}
 use Rattle.st_rules.specs.Interfaces.{interfaces_in}
 use Rattle.st_rules.specs.Kinds.{element_at_level, element_type}
-use Rattle.st_rules.specs.Places.{Standing, untold, a_value, own_instance, no_base, an_enumeration, Part, standing_of, standing_type, meant_type, part_type, field_part, member_part, value_part, instance_part, part_of, referenced, dereferenced, indexed, count_expressions, selected, along, root_standing, this_standing, super_standing, name_standing, qualified_standing, placed, place_type, method_part}
+use Rattle.st_rules.specs.Places.{Standing, untold, a_value, own_instance, no_base, an_enumeration, a_value_of, Part, standing_of, standing_type, meant_type, part_type, field_part, member_part, value_part, instance_part, part_of, referenced, dereferenced, indexed, count_expressions, selected, along, root_standing, this_standing, super_standing, name_standing, qualified_standing, placed, place_type, method_part}
 use Rattle.st_rules.specs.Scope.{Scope, Meant, a_variable, a_function, an_enumerator, values_of, of_untold, no_qualifier, Qualifier, first_named, global_name, global_meaning, global_named, is_external, is_inherited, variables_of, variable_named, is_of_instance, of_class, own_entry, base_entry, class_entry, local_entry, entry, method_meaning, enumerator_meaning, only_enumerator, meant_by, meaning_behind, sought, dot_qualifier, field_named, instance_entry, instance_variable, value_of}
 use Rattle.st_rules.specs.Scope as rules
 use Rattle.st_rules.proofs.Booleans.{none≢some, some-same}
@@ -59,6 +59,9 @@ interface_seen : (is : List (InterfaceDecl Note)) (n : ℕ) (ds : List (Interfac
 interface_seen is n [] i d e = absurd (none≢some e)
 interface_seen is n (x ∷ ds) zero d e = (_, refl)
 interface_seen is n (x ∷ ds) (suc i) d e = interface_seen is (suc n) ds i d e
+
+no_array : (n : ℕ) (low high : ℤ) (of : StType) → StType-F.Enumeration n ≡ StType-F.Array low high of → ⊥
+no_array n low high of q = cc
 
 -- an enumeration, on which nothing stands
 abbrev IsCounted : StType → Type 0
@@ -105,8 +108,8 @@ module _ (decls : List (Decl ℕ)) (p : Checked) (checked : IsChecked decls p) (
   element_fine : (t : StType) → Fine t → ToldFine (element_type t)
   element_fine t h = by (out-StType t) refl h
     where
-      counted : (u : StType) (low high : _) (of : StType) → IsCounted u → out-StType u ≡ StType-F.Array low high of → ⊥
-      counted (type.Enumeration n) low high of c q = cc
+      counted : (u : StType) (low high : ℤ) (of : StType) → IsCounted u → out-StType u ≡ StType-F.Array low high of → ⊥
+      counted (type.Enumeration n) low high of c q = no_array n low high of (sym (type.outs-Enumeration n) ∙ q)
       counted _ low high of c q = absurd c
 
       by : (level : StType-F StType) → out-StType t ≡ level → Fine t → ToldFine (element_at_level level)

@@ -279,11 +279,11 @@ module _ (p : Program) (s : Scope) where
         result_placed : (r : Option (TypeSpec ℕ)) (q : Option (TypeSpec Note)) (zs : List Variable) → IfThere (TypedSpec s) r q → g.locals ≡ result_of name q ++ zs → (n : List ℕ) (v : DeclaredVariable) → variable_named n (result_declared s own r) ≡ Some v → IsPlaced v
         result_placed None q zs i e n v f = absurd (none≢some f)
         result_placed (Some t) None zs i e n v f = absurd i
-        result_placed (Some t) (Some u) zs i e n v f = by (same own n) f
+        result_placed (Some t) (Some u) zs i e n v f = by (same own n) _ (λ x c k j. ((_, ap (λ l. slice_get l 0) e, kind_shown s t u i ∙ told_as (type_written s t) k j), tt)) f
           where
-            by : (b : Bool) → (if b then Some (record { name = own; sort = sort.Var; constant = false; access = _; located_input = false; kind = type_written s t; target = target.Local 0 }) else None) ≡ Some v → IsPlaced v
-            by true h = subst IsPlaced (some-same h) (λ x c k j. ((_, ap (λ l. slice_get l 0) e, kind_shown s t u i ∙ told_as (type_written s t) k j), tt))
-            by false h = absurd (none≢some h)
+            by : (b : Bool) (d : DeclaredVariable) → IsPlaced d → (if b then Some d else None) ≡ Some v → IsPlaced v
+            by true d k h = subst IsPlaced (some-same h) k
+            by false d k h = absurd (none≢some h)
 
         either_named : (n : List ℕ) (xs zs : List DeclaredVariable) (v : DeclaredVariable) → variable_named n (xs ++ zs) ≡ Some v → ((variable_named n xs ≡ Some v) → IsPlaced v) → ((variable_named n zs ≡ Some v) → IsPlaced v) → IsPlaced v
         either_named n [] zs v e f h = h e
