@@ -173,11 +173,6 @@ hash_told name (t ∷ ts) h e = by (same t.name name) (hash_told name ts h.1) e
     kind : (o : Option StType) → is_some o ≡ true → rules.qualifier_kind o ≡ of_untold → ⊥
     kind None i f = false≢true i
     kind (Some (type.Enumeration n)) i f = cc
-    kind (Some (type.Elementary n)) i f = cc
-    kind (Some (type.Structure n)) i f = cc
-    kind (Some (type.Instance n)) i f = cc
-    kind (Some (type.Reference n)) i f = cc
-    kind (Some (type.Interface n)) i f = cc
     kind (Some _) i f = cc
 
     by : (b : Bool) → (qualifier_type (type_named name ts) ≡ of_untold → ⊥) → qualifier_type (if b then Some t else type_named name ts) ≡ of_untold → ⊥
@@ -326,10 +321,13 @@ module _ (most : ℕ) (decls : List (Decl ℕ)) (p : Checked) (checked : IsCheck
 
           -- ---- entries
 
+          abbrev OnePlaced : Option ℕ → DeclaredVariable → Type 0
+          OnePlaced None v = is_external v.sort ≡ false → IsPlaced v
+          OnePlaced (Some d) v = is_external v.sort ≡ false → (m && is_of_body v) ≡ false → IsPlaced v
+
           abbrev EntryPlaced : Option (Option ℕ × DeclaredVariable) → Type 0
           EntryPlaced None = Unit {0}
-          EntryPlaced (Some (None, v)) = is_external v.sort ≡ false → IsPlaced v
-          EntryPlaced (Some (Some d, v)) = is_external v.sort ≡ false → (m && is_of_body v) ≡ false → IsPlaced v
+          EntryPlaced (Some e) = OnePlaced e.0 e.1
 
           either_placed : (a b : Option (Option ℕ × DeclaredVariable)) → EntryPlaced a → EntryPlaced b → EntryPlaced (a or_else b)
           either_placed None b h k = k
@@ -412,7 +410,7 @@ module _ (most : ℕ) (decls : List (Decl ℕ)) (p : Checked) (checked : IsCheck
           only_placed name (y ∷ []) = tt
           only_placed name (y ∷ (z ∷ ys)) = tt
 
-          of_entry : (l : ℕ) (name : List ℕ) (d : Option ℕ) (v : DeclaredVariable) → EntryPlaced (Some (d, v)) → is_external v.sort ≡ false → name_out_of_access s l (Some (a_variable d v)) ≡ [] → IsPlaced v
+          of_entry : (l : ℕ) (name : List ℕ) (d : Option ℕ) (v : DeclaredVariable) → OnePlaced d v → is_external v.sort ≡ false → name_out_of_access s l (Some (a_variable d v)) ≡ [] → IsPlaced v
           of_entry l name None v h x f = h x
           of_entry l name (Some d) v h x f = h x (not_when (m && is_of_body v) E10 l (none_in (member_out_of_access s l d v) (body_variable_in_a_method s l v) f).1)
 
