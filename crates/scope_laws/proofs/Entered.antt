@@ -1,7 +1,13 @@
 -- What a call of a function or a method may enter takes what is declared and gives the result that is declared.
 use Rattle.std.proofs.Common.{◌≡◌, ◌≤◌, ◌<◌, ℕ, zero, suc, Bool, true, false, List, [], ◌∷◌, ◌++◌, length, Option, Some, None, refl, sym, ap, ◌∙◌, subst, inl, inr, ◌⊎◌, arith, append-nil}
-use Rattle.std.specs.Prelude.{not, option_map, slice_get, IsTrue}
+use Rattle.std.specs.Prelude.{not, nat_eq, option_map, option_and_then, slice_get, IsTrue}
 use Rattle.std.proofs.lemmas.Option.{slice_get-map, slice_get_within}
+use Rattle.st_rules.specs.Named.{first_place}
+use Rattle.std.proofs.lemmas.Bool.{eq-eqb}
+use Rattle.st_unit_rules.specs.declared_names.WrittenTypes.{type_written}
+use Rattle.st_tree.specs.Initial.{initial_of}
+use Rattle.st_tree.specs.declared.initial.Init.{Init}
+use Rattle.st_tree.specs.declared.type_spec.TypeSpec.{TypeSpec}
 use Rattle.plc_text.specs.Words.{same}
 use Rattle.st_types.specs.declared.st_type.StType.{StType}
 use Rattle.st_types.specs.declared.st_type.StType.TheVariants as type
@@ -12,7 +18,7 @@ use Rattle.st_tree.specs.declared.declaration.Method.{Method}
 use Rattle.st_tree.specs.declared.program.Note.{Note}
 use Rattle.st_tree.specs.declared.program.Program.{Program as Checked}
 use Rattle.st_tree.specs.declared.unit.Decl.{Decl}
-use Rattle.st_tree.specs.Statement.{statements_of}
+use Rattle.st_tree.specs.Statement.{statements_of, no_statements}
 use Rattle.st_rules.specs.declared.ids.MethodId.{MethodId}
 use Rattle.st_rules.specs.declared.ids.PrototypeId.{PrototypeId}
 use Rattle.st_rules.specs.declared.names.DeclaredRoutine.{DeclaredRoutine}
@@ -28,7 +34,7 @@ use Rattle.st_rules.specs.Scope.{Scope, method_routine, prototype_routine}
 use Rattle.st_rules.specs.Signatures.{differ, same_signature, signature_of, prototype_signature}
 use Rattle.st_rules.proofs.Booleans.{none≢some, some-same, false≢true, or-first, or-second}
 use Rattle.st_rules.proofs.ClassLaws.{bases_within, chain_law}
-use Rattle.st_unit_rules.specs.declared_names.Declarations.{functions_in}
+use Rattle.st_unit_rules.specs.declared_names.Declarations.{functions_in, entries_in}
 use Rattle.st_unit_rules.specs.declared_names.UnitNames.{unit_names, unit_scope, method_scope, function_scope, prototype_scope, routine_declared, method_declared, prototype_declared}
 use Rattle.st_unit_rules.specs.Checked.{Each, TypedClass, TypedFunction, IsChecked}
 use Rattle.st_unit_rules.specs.DeclarationRules.{signatures, signature_in}
@@ -39,7 +45,7 @@ use Rattle.st_values.specs.Program.{Parameter, Routine, class_at, conforms}
 use Rattle.st_values.specs.View as view
 use Rattle.st_values.specs.View.{method_of, function_of, class_of, program_of}
 use Rattle.st_meaning.specs.st_frame.Footprint.{Enters, by_number, by_class, by_text}
-use Rattle.st_meaning.specs.st_frame.Use.{Called, the_function, a_method_of, a_method_from, called_parameters}
+use Rattle.st_meaning.specs.st_frame.Use.{Called, the_function, a_method_of, a_method_from, parameters_of, signed, signatures_at, interface_parameters, called_parameters}
 use Rattle.st_meaning.specs.st_frame.Promise.Calls.{IsLiving, Answers, most_parameters}
 use Rattle.accepted_texts.specs.formed_units.Formed.{IsFormed}
 use Rattle.accepted_texts.specs.told_units.Told.{AllIsTold}
@@ -85,6 +91,11 @@ module _ (p : seen.Program) where
   pub enters_alike : (k : Called) (x : Routine) (r q : DeclaredRoutine) → RoutineFacts x r → AlikeRoutines r q → x.parameters ≡ called_parameters p (Some k) → Answers p k (λ y. TakesBy p (Some y) q.parameters (called_parameters p (Some k)) × Gives y q.outcome) x
   enters_alike k x r q f a e = answers k x q.parameters q.outcome e f.few (takes_same (Some x) r.parameters q.parameters x.parameters a.parameters f.fills) (subst (Gives x) a.outcome f.gives)
 
+-- the parameters of a method of an interface
+parameters_signed : (o : Option seen.Interface) (name : List ℕ) → interface_parameters o name ≡ signed (signatures_at o) name
+parameters_signed None name = refl
+parameters_signed (Some i) name = refl
+
 -- ---- in a unit
 
 module _ (most : ℕ) (decls : List (Decl ℕ)) (p : Checked) (checked : IsChecked decls p) (well : IsFormed most decls) (good : BreaksNothing decls) (all : AllIsTold decls) where
@@ -115,7 +126,7 @@ module _ (most : ℕ) (decls : List (Decl ℕ)) (p : Checked) (checked : IsCheck
       let at : slice_get pp.functions k ≡ Some (function_of y.0) = slice_get-map function_of p.functions k ∙ ap (option_map function_of) y.1 in
       let d = routine_declared (unit_scope decls (unit_names decls)) f.name.text [] f.result f.sections in
       let facts = function_facts k f y.0 e y.2 in
-      let called : called_parameters pp (Some (the_function k)) ≡ (function_of y.0).parameters = ap Rattle.st_meaning.specs.st_frame.Use.parameters_of at in
+      let called : called_parameters pp (Some (the_function k)) ≡ (function_of y.0).parameters = ap parameters_of at in
       subst (λ (z : DeclaredRoutine). Runs pp (the_function k) z.parameters z.outcome) (sym q)
       (record {
         found = (function_of y.0, at);
@@ -184,8 +195,8 @@ module _ (most : ℕ) (decls : List (Decl ℕ)) (p : Checked) (checked : IsCheck
         alike = alike_through a.first b.first b.second (subst (AlikeRoutines a.first) r a.alike) b.alike;
       }
 
-  abbrev value_in : Scope → Rattle.st_tree.specs.declared.type_spec.TypeSpec.TypeSpec ℕ → Option (Rattle.st_tree.specs.declared.initial.Init.Init ℕ) → Option Worth
-  value_in s t i = worth_of (unit_scope decls (unit_names decls)) (Rattle.st_unit_rules.specs.declared_names.Declarations.entries_in decls) s t (option_map Rattle.st_tree.specs.Initial.initial_of i)
+  abbrev value_in : Scope → TypeSpec ℕ → Option (Init ℕ) → Option Worth
+  value_in s t i = worth_of (unit_scope decls (unit_names decls)) (entries_in decls) s t (option_map initial_of i)
 
   not_differ : (a b : Signature Worth) → differ same_worth (Some a) (Some b) ≡ false → same_signature same_worth a b ≡ true
   not_differ a b h = by (same_signature same_worth a b) h
@@ -208,7 +219,7 @@ module _ (most : ℕ) (decls : List (Decl ℕ)) (p : Checked) (checked : IsCheck
       let texts = texts_alike s t (value_in s) (value_in t) x.method.name.text z.method.name.text x.method.result z.method.result x.method.sections z.method.sections
       (method_text most decls well good all i.class i.method x.class x.method x.class_there x.there) (method_text most decls well good all j.class j.method z.class z.method z.class_there z.there) e in
       let same_ones : (method_of i.class x.shown).parameters ≡ (method_of j.class z.shown).parameters =
-      parameters_same same_worth (Rattle.st_unit_rules.specs.declared_names.WrittenTypes.type_written s) (Rattle.st_unit_rules.specs.declared_names.WrittenTypes.type_written t) (value_in s) (value_in t) s t x.shown.name.text z.shown.name.text x.method.result z.method.result x.shown.result z.shown.result x.method.sections z.method.sections x.shown.sections z.shown.sections
+      parameters_same same_worth (type_written s) (type_written t) (value_in s) (value_in t) s t x.shown.name.text z.shown.name.text x.method.result z.method.result x.shown.result z.shown.result x.method.sections z.method.sections x.shown.sections z.shown.sections
       x.typed.result z.typed.result x.typed.sections z.typed.sections e in
       let at = at_shown j z in
       record {
@@ -229,17 +240,17 @@ module _ (most : ℕ) (decls : List (Decl ℕ)) (p : Checked) (checked : IsCheck
   own_range : (name : List ℕ) (c : ℕ) (id : MethodId) → own_method xs name c ≡ Some id → c < length xs
   own_range name c id e = by (slice_get xs c) refl e
     where
-      by : (o : Option (ClassDecl ℕ)) → slice_get (classes_in decls) c ≡ o → option_map (rules.method_id c) (Rattle.std.specs.Prelude.option_and_then (λ (d : ClassDecl ℕ). Rattle.st_rules.specs.Named.first_place name (rules.method_names d)) o) ≡ Some id → c < length (classes_in decls)
+      by : (o : Option (ClassDecl ℕ)) → slice_get (classes_in decls) c ≡ o → option_map (rules.method_id c) (option_and_then (λ (d : ClassDecl ℕ). first_place name (rules.method_names d)) o) ≡ Some id → c < length (classes_in decls)
       by None q f = absurd (none≢some f)
       by (Some d) q f = slice_get_within (classes_in decls) c d q
 
   near_range : (name : List ℕ) (c : ℕ) (id : MethodId) (cs : List ℕ) → ((d : ℕ) → is_among d cs ≡ true → d < length xs → c < length xs) → nearest (own_method xs name) cs ≡ Some id → c < length xs
   near_range name c id [] f e = absurd (none≢some e)
-  near_range name c id (d ∷ cs) f e = by (own_method xs name d) refl (near_range name c id cs (λ k m. f k (or-second (Rattle.std.specs.Prelude.nat_eq k d) (is_among k cs) m))) e
+  near_range name c id (d ∷ cs) f e = by (own_method xs name d) refl (near_range name c id cs (λ k m. f k (or-second (nat_eq k d) (is_among k cs) m))) e
     where
       by : (o : Option MethodId) → own_method (classes_in decls) name d ≡ o → (nearest (own_method (classes_in decls) name) cs ≡ Some id → c < length (classes_in decls)) → (o or_else nearest (own_method (classes_in decls) name) cs) ≡ Some id → c < length (classes_in decls)
       by None q later h = later h
-      by (Some j) q later h = f d (or-first (Rattle.std.specs.Prelude.nat_eq d d) (is_among d cs) (Rattle.std.proofs.lemmas.Bool.eq-eqb d d refl)) (own_range name d j q)
+      by (Some j) q later h = f d (or-first (nat_eq d d) (is_among d cs) (eq-eqb d d refl)) (own_range name d j q)
 
   pub lookup_range : (c : ℕ) (name : List ℕ) (id : MethodId) → lookup xs c name ≡ Some id → c < length xs
   unfolding lookup
@@ -309,7 +320,7 @@ module _ (most : ℕ) (decls : List (Decl ℕ)) (p : Checked) (checked : IsCheck
         let at = at_shown id l.method in
         let facts = method_facts id l.method in
         let r = Declared id l.method.method in
-        let called : called_parameters pp (Some (a_method_from c name)) ≡ (method_of id.class l.method.shown).parameters = ap Rattle.st_meaning.specs.st_frame.Use.parameters_of l.is in (
+        let called : called_parameters pp (Some (a_method_from c name)) ≡ (method_of id.class l.method.shown).parameters = ap parameters_of l.is in (
           r,
           at.declared,
           record {
@@ -350,8 +361,8 @@ module _ (most : ℕ) (decls : List (Decl ℕ)) (p : Checked) (checked : IsCheck
         let h = x.typed in
         let s = prototype_scope decls (unit_names decls) m in
         let t = prototype_text most decls well good all id.interface id.method x.interface m x.interface_there x.there in (
-          declared_takes pp s None y.line y.name.text m.name.text m.result y.result m.sections y.sections Rattle.st_tree.specs.Statement.no_statements t.settled t.told_all t.outcome t.inside h.result h.sections t.few,
-          told_result pp s None y.line y.name.text m.name.text m.result y.result m.sections y.sections Rattle.st_tree.specs.Statement.no_statements t.settled t.told_all t.outcome t.inside h.result h.sections t.few,
+          declared_takes pp s None y.line y.name.text m.name.text m.result y.result m.sections y.sections no_statements t.settled t.told_all t.outcome t.inside h.result h.sections t.few,
+          told_result pp s None y.line y.name.text m.name.text m.result y.result m.sections y.sections no_statements t.settled t.told_all t.outcome t.inside h.result h.sections t.few,
         )
 
     record AlikeBoth (k : MethodId) (x : MethodShown decls p checked k) (id : PrototypeId) (z : PrototypeShown decls p checked id) : Type 0 where
@@ -373,7 +384,7 @@ module _ (most : ℕ) (decls : List (Decl ℕ)) (p : Checked) (checked : IsCheck
         record {
           routines = record { parameters = texts.parameters; outcome = texts.outcome };
           parameters =
-              parameters_same same_worth (Rattle.st_unit_rules.specs.declared_names.WrittenTypes.type_written s) (Rattle.st_unit_rules.specs.declared_names.WrittenTypes.type_written t) (value_in s) (value_in t) s t x.shown.name.text z.shown.name.text x.method.result z.prototype.result x.shown.result z.shown.result x.method.sections z.prototype.sections x.shown.sections z.shown.sections
+              parameters_same same_worth (type_written s) (type_written t) (value_in s) (value_in t) s t x.shown.name.text z.shown.name.text x.method.result z.prototype.result x.shown.result z.shown.result x.method.sections z.prototype.sections x.shown.sections z.shown.sections
               x.typed.result z.typed.result x.typed.sections z.typed.sections e;
         }
 
@@ -385,7 +396,7 @@ module _ (most : ℕ) (decls : List (Decl ℕ)) (p : Checked) (checked : IsCheck
           let y = found_at c name k.0 k.1 in
           let b = both_alike k.0 y.method id z.prototype k.2 in
           subst (Suits (a_method_of (type.Interface i) name) (prototype_declared decls (unit_names decls) z.prototype.prototype)) (some-same (sym y.is ∙ f))
-          (enters_alike pp (a_method_of (type.Interface i) name) (method_of (k.0).class y.method.shown) (Declared k.0 y.method.method) (prototype_declared decls (unit_names decls) z.prototype.prototype) (method_facts k.0 y.method) b.routines (b.parameters ∙ sym z.parameters))
+          (enters_alike pp (a_method_of (type.Interface i) name) (method_of (k.0).class y.method.shown) (Declared k.0 y.method.method) (prototype_declared decls (unit_names decls) z.prototype.prototype) (method_facts k.0 y.method) b.routines (b.parameters ∙ (sym z.parameters ∙ sym (parameters_signed (slice_get pp.interfaces i) name))))
 
       pub interface_runs : (i : ℕ) (name : List ℕ) (id : PrototypeId) → There (InterfaceDecl ℕ) (interfaces_in decls) i → interface_lookup (interfaces_in decls) i name ≡ Some id
           → (r : DeclaredRoutine) × (prototype_routine (unit_scope decls (unit_names decls)) id ≡ Some r) × Runs pp (a_method_of (type.Interface i) name) r.parameters r.outcome
@@ -399,7 +410,7 @@ module _ (most : ℕ) (decls : List (Decl ℕ)) (p : Checked) (checked : IsCheck
             record {
               found = ((z.place, view.signature_of x.shown, z.there, is_same x.shown.name.text name z.name_is), λ c l h. let k = meets.by c i name id l h e in let y = found_at c name k.0 k.1 in (method_of (k.0).class y.method.shown, y.is));
               told = facts.1;
-              declared = subst (TakesBy pp None r.parameters) (sym z.parameters) facts.0;
+              declared = subst (TakesBy pp None r.parameters) (sym z.parameters ∙ sym (parameters_signed (slice_get pp.interfaces i) name)) facts.0;
               enters = interface_enters i name id e z;
             },
           )

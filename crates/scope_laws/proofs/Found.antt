@@ -26,7 +26,7 @@ use Rattle.st_values.specs.View.{method_of, signature_of, meant_in, interfaces_f
 use Rattle.st_values.proofs.ShapeLaws.{mapped_some}
 use Rattle.st_meaning.specs.st_frame.Use.{signed, signatures_at}
 use Rattle.resolution_order.specs.told_laws.ToldLaws.{Every}
-use Rattle.accepted_texts.proofs.unfolding_laws.ListLaws.{There, if_there, each_get}
+use Rattle.accepted_texts.proofs.unfolding_laws.ListLaws.{There, there_below, if_there, if_found, each_get}
 use Rattle.accepted_texts.proofs.unfolding_laws.ChainLaws.{chain_there, chain_same, class_seen}
 use Rattle.class_laws.proofs.Same.{methods_each, interface_lookup_same}
 use Rattle.scope_laws.proofs.Members.{class_typed}
@@ -159,7 +159,7 @@ module _ (decls : List (Decl ℕ)) (p : Checked) (checked : IsChecked decls p) w
   pub looked_up : (c : ℕ) (name : List ℕ) (id : MethodId) → c < length (classes_in decls) → lookup (classes_in decls) c name ≡ Some id → LookedUp c name id
   unfolding lookup seen.lookup
   looked_up c name id l e =
-      let t = Rattle.accepted_texts.proofs.unfolding_laws.ListLaws.there_below (classes_in decls) c l in
+      let t = there_below (classes_in decls) c l in
       let y = class_typed decls p checked c t.item t.there in
       let r = nearest_found name (chain (classes_in decls) c) id (chain_there (classes_in decls) c l) e in
       let q : seen.chain_of (class_at (program_of p) c) ≡ chain (classes_in decls) c = ap seen.chain_of (class_seen p c y.0 y.1) ∙ chain_same decls (classes_in decls) p.classes checked.classes c in
@@ -223,11 +223,11 @@ module _ (decls : List (Decl ℕ)) (p : Checked) (checked : IsChecked decls p) w
   unfolding interface_lookup
   meant_named i name g e =
       let m = mapped_some signature_of (option_and_then (prototype_at p.interfaces) (interface_lookup p.interfaces i name)) g e in
-      by m.0 g m.2 (interface_lookup p.interfaces i name) refl m.1
+      by m.0 m.2 (prototype_within p.interfaces name (length p.interfaces) i) refl m.1
     where
-      by : (m : Prototype Note) (g : Signature) → signature_of m ≡ g → (o : Option PrototypeId) → interface_lookup p.interfaces i name ≡ o → option_and_then (prototype_at p.interfaces) o ≡ Some m → g.name ≡ name
-      by m g q None f h = absurd (none≢some h)
-      by m g q (Some id) f h =
+      by : (m : Prototype Note) → signature_of m ≡ g → (o : Option PrototypeId) → prototype_within p.interfaces name (length p.interfaces) i ≡ o → option_and_then (prototype_at p.interfaces) o ≡ Some m → g.name ≡ name
+      by m q None f h = absurd (none≢some h)
+      by m q (Some id) f h =
           let n = within_named p.interfaces name (length p.interfaces) i id f in
           let at : prototype_at p.interfaces id ≡ Some n.method = ap (option_and_then (λ (d : InterfaceDecl Note). slice_get d.methods id.method)) n.interface_there ∙ n.there in
           ap (λ (x : Signature). x.name) (sym q) ∙ (ap (λ (x : Prototype Note). x.name.text) (some-same (sym h ∙ at)) ∙ n.name_is)
@@ -308,8 +308,8 @@ module _ (decls : List (Decl ℕ)) (p : Checked) (checked : IsChecked decls p) w
   prototype_found i name id t e =
       let shown_lookup : interface_lookup p.interfaces i name ≡ Some id = interface_lookup_same decls p checked i name ∙ e in
       let n = within_named p.interfaces name (length p.interfaces) i id shown_lookup in
-      let d = Rattle.accepted_texts.proofs.unfolding_laws.ListLaws.if_found (TypedInterface decls) (slice_get (interfaces_in decls) id.interface) (slice_get p.interfaces id.interface) n.interface n.interface_there (each_get (TypedInterface decls) (interfaces_in decls) p.interfaces id.interface checked.interfaces) in
-      let m = Rattle.accepted_texts.proofs.unfolding_laws.ListLaws.if_found (TypedPrototype decls) (slice_get (d.0).methods id.method) (slice_get (n.interface).methods id.method) n.method n.there (each_get (TypedPrototype decls) (d.0).methods (n.interface).methods id.method (d.2).methods) in
+      let d = if_found (TypedInterface decls) (slice_get (interfaces_in decls) id.interface) (slice_get p.interfaces id.interface) n.interface n.interface_there (each_get (TypedInterface decls) (interfaces_in decls) p.interfaces id.interface checked.interfaces) in
+      let m = if_found (TypedPrototype decls) (slice_get (d.0).methods id.method) (slice_get (n.interface).methods id.method) n.method n.there (each_get (TypedPrototype decls) (d.0).methods (n.interface).methods id.method (d.2).methods) in
       let y = if_there (TypedInterface decls) (slice_get (interfaces_in decls) i) (slice_get p.interfaces i) t.item t.there (each_get (TypedInterface decls) (interfaces_in decls) p.interfaces i checked.interfaces) in
       let at : prototype_at p.interfaces id ≡ Some n.method = ap (option_and_then (λ (x : InterfaceDecl Note). slice_get x.methods id.method)) n.interface_there ∙ n.there in
       let meant : Meant i name ≡ Some (signature_of n.method) = ap (λ o. option_map signature_of (option_and_then (prototype_at p.interfaces) o)) shown_lookup ∙ ap (option_map signature_of) at in
