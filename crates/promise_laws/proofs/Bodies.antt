@@ -55,10 +55,10 @@ body_right : (s : Scope) (p : seen.Program) (g : Around) (text : Statements ℕ)
 body_right s p g text body a f h e = subst (StatementsAre p g) (sym e) (statements s p g a false text f h)
 
 -- a program among the classes
-record ProgramShown (n : ℕ) (ds : List (ProgramDecl Note)) (i : ℕ) (k : Class) : Type 0 where
-  text : ProgramDecl Note
-  there : slice_get ds i ≡ Some text
-  is : k.body ≡ body_routine (n + i) text.name.text text.line (variables_in text.sections) (statements_of text.body)
+pub record ProgramShown (n : ℕ) (ds : List (ProgramDecl Note)) (i : ℕ) (k : Class) : Type 0 where
+  pub text : ProgramDecl Note
+  pub there : slice_get ds i ≡ Some text
+  pub is : k.body ≡ body_routine (n + i) text.name.text text.line (variables_in text.sections) (statements_of text.body)
 
 program_from : (n : ℕ) (ds : List (ProgramDecl Note)) (i : ℕ) (k : Class) → slice_get (programs_from n ds) i ≡ Some k → ProgramShown n ds i k
 program_from n [] i k e = absurd (none≢some e)
@@ -72,15 +72,15 @@ program_from n (d ∷ ds) (suc i) k e =
 
 module _ (p : Checked) where
   -- a class of the text, or a program, by its number
-  record AsClass (c : ℕ) (k : Class) : Type 0 where
-    decl : ClassDecl Note
-    there : slice_get p.classes c ≡ Some decl
-    is : k ≡ class_of p.classes p.interfaces c decl
+  pub record AsClass (c : ℕ) (k : Class) : Type 0 where
+    pub decl : ClassDecl Note
+    pub there : slice_get p.classes c ≡ Some decl
+    pub is : k ≡ class_of p.classes p.interfaces c decl
 
-  record AsProgram (c : ℕ) (k : Class) : Type 0 where
-    number : ℕ
-    at : c ≡ length p.classes + number
-    shown : ProgramShown (length p.classes) p.programs number k
+  pub record AsProgram (c : ℕ) (k : Class) : Type 0 where
+    pub number : ℕ
+    pub at : c ≡ length p.classes + number
+    pub shown : ProgramShown (length p.classes) p.programs number k
 
   class_or_program : (n : ℕ) (ds : List (ClassDecl Note)) (l i : ℕ) (k : Class) → l ≡ n + length ds → slice_get (classes_from p.classes p.interfaces n ds ++ programs_from l p.programs) i ≡ Some k
       → ((d : ClassDecl Note) × (slice_get ds i ≡ Some d) × (k ≡ class_of p.classes p.interfaces (n + i) d)) ⊎ ((j : ℕ) × (n + i ≡ l + j) × ProgramShown l p.programs j k)
@@ -98,7 +98,7 @@ module _ (p : Checked) where
         | inr r ↦ inr (r.0, sym z ∙ r.1, r.2)
       ]
 
-  by_number : (c : ℕ) (k : Class) → class_at (program_of p) c ≡ Some k → AsClass c k ⊎ AsProgram c k
+  pub by_number : (c : ℕ) (k : Class) → class_at (program_of p) c ≡ Some k → AsClass c k ⊎ AsProgram c k
   by_number c k e =
       let l : length p.classes ≡ 0 + length p.classes = omega arith in
       let z : 0 + c ≡ c = omega arith in
