@@ -1,5 +1,5 @@
 pub mod PlaceLaws
 pub mod RootLaws
-pub mod FixedLaws
+pub mod AssignabilityLaws
 pub mod NoteLaws
 pub mod Joins

@@ -1,5 +1,5 @@
 -- The words of private contracts.
 pub mod Places
 pub mod Indices
-pub mod Fixed
+pub mod Assignability
 pub mod Notes

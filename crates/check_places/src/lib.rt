@@ -3,8 +3,8 @@
 #![tactic(auto)]
 
 mod access;
+mod assignability;
 mod conversion;
-mod fixed;
 mod indices;
 mod notes;
 mod parts;
@@ -13,8 +13,8 @@ mod roots;
 mod selectors;
 mod standing;
 
+pub use assignability::{is_fixed, target_fault};
 pub use conversion::conversion_named;
-pub use fixed::{is_fixed, target_fault};
 pub use notes::{
     meant_target, note, note_of, part_note, standing_note, typed_root, value_target, whole_target,
 };

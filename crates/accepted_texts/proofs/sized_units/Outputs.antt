@@ -1,6 +1,6 @@
 -- The variables with addresses of a checked program have just the bits that the rules compare, so its outputs share none.
 use Rattle.std.proofs.Common.{◌≡◌, ◌≤◌, ◌<◌, ℕ, suc, ◌+◌, ◌*◌, Bool, true, false, List, [], ◌∷◌, ◌++◌, map, length, Option, Some, None, refl, sym, ap, ◌∙◌, subst, inl, inr, arith, ltb-false}
-use Rattle.std.specs.Prelude.{◌⊎◌, not, ◌&&◌, nat_eq, nat_le, nat_lt, filter, flat_map, option_map, slice_get}
+use Rattle.std.specs.Prelude.{◌⊎◌, if◌then◌else◌, not, ◌&&◌, nat_eq, nat_le, nat_lt, filter, flat_map, option_map, slice_get}
 use Rattle.std.specs.Option.{is_some}
 use Rattle.std.proofs.lemmas.List.{map-append}
 use Rattle.st_types.specs.declared.elem.Elem.{Elem}

@@ -28,7 +28,7 @@ use Rattle.st_unit_rules.specs.Checked.{Each, TypedClass, TypedProgram, TypedReg
 use Rattle.st_unit_rules.specs.ConfigurationRules.{runs_in}
 use Rattle.st_unit_rules.specs.RefusalLaws.{IsGood}
 use Rattle.st_unit_rules.specs.UnitRefusal.{BreaksNothing}
-use Rattle.st_unit_rules.specs.VariableRules.{of_globals, of_program, width_bits, is_elementary_of_width}
+use Rattle.st_unit_rules.specs.VariableRules.{of_program, width_bits, is_elementary_of_width}
 use Rattle.st_values.specs.Program as seen
 use Rattle.st_values.specs.Program.{Variable, class_at, class_variables}
 use Rattle.st_values.specs.Shape.{Shape, Elementary, Instance, Fields, no_fields, field_then, field, fields_by, shape_by, shape_of, shape_within, shape_at, region_shape, path_shape}
@@ -47,7 +47,7 @@ use Rattle.accepted_texts.proofs.unfolding_laws.ListLaws.{every_append, every_at
 use Rattle.accepted_texts.proofs.unfolding_laws.ChainLaws.{program_seen}
 use Rattle.accepted_texts.proofs.unfolding_laws.RegionLaws.{OfRegion, each_program, each_region}
 use Rattle.accepted_texts.proofs.unfolding_laws.UnfoldingLaws.{unfolding_laws}
-use Rattle.accepted_texts.proofs.sized_units.Addresses.{ItemPlaced, WrittenPlaced, unit, global_placed, ProgramPlaced, program_placed}
+use Rattle.accepted_texts.proofs.sized_units.Addresses.{WrittenPlaced, unit, GlobalPlaced, global_placed, ProgramPlaced, program_placed}
 use Rattle.accepted_texts.proofs.sized_units.Depths.{type_is}
 use Rattle.accepted_texts.proofs.sized_units.Instances.{found_named, names_of_programs, IsFound, instances_found}
 use Rattle.accepted_texts.proofs.sized_units.Kept.{program_variables}
@@ -71,7 +71,7 @@ elementary_of n t (StType-F.Array low high of) q h = let s = type_is t (StType-F
 
 told_elementary : (n : ℕ) (t : Option StType) → is_elementary_of_width n t ≡ true → IsElementary (told t)
 unfolding told
-told_elementary n None h = (kind.Bool, refl)
+told_elementary n None h = (kind.Dint, refl)
 told_elementary n (Some t) h = elementary_of n t (out-StType t) refl h
 
 -- ---- shapes
@@ -179,10 +179,10 @@ module _ (decls : List (Decl ℕ)) (p : Program) (good : IsGood decls) (checked 
   -- ---- regions as the rules have them
 
   abbrev RegionPlaced : Region → Type 0
-  RegionPlaced u = OfRegion (ItemPlaced (unit decls) of_globals) (IsFound decls) u
+  RegionPlaced u = OfRegion (GlobalPlaced decls) (IsFound decls) u
 
   regions_placed : Every RegionPlaced (unit_regions decls)
-  regions_placed = each_region decls (ItemPlaced (unit decls) of_globals) (IsFound decls) (global_placed decls) (instances_found decls) good.nothing
+  regions_placed = each_region decls (GlobalPlaced decls) (IsFound decls) (global_placed decls) (instances_found decls) good.nothing
 
   -- ---- addresses
 
@@ -198,7 +198,7 @@ module _ (decls : List (Decl ℕ)) (p : Program) (good : IsGood decls) (checked 
       let q : Path = record { region = r; steps = [] } in
       let e : located_in pp r x ≡ located q x.variable x.variable.address =
       ap (λ b. if b then located_variables r 0 (class_variables pp (class_of_kind x.variable.kind)) else located q x.variable x.variable.address) h.program in
-      let all = one_right (unit decls) q x.variable x.variable.address (λ text a. subst IsElementary (sym h.kind) (told_elementary (width_bits (width_of text)) (type_written (unit decls) w.item.kind) (k text (sym h.address ∙ a)).wide)) in
+      let all = one_right (unit decls) q x.variable x.variable.address (λ text a. subst IsElementary (sym h.kind) (told_elementary (width_bits (width_of text)) (type_written (unit decls) w.item.kind) (k.0 text (sym h.address ∙ a)).wide)) in
       subst (Every IsRight) (sym e)
       (every_means (λ (y : Located). (y.path ≡ q) × (x.variable.kind ≡ type.Elementary y.elem)) IsRight
       (λ y f. ap (path_shape pp) f.0 ∙ (ap (λ o. (o >>= λ z. shape_of pp z.variable.kind) >>= λ sh. shape_at sh []) i ∙ ap (λ o. o >>= λ sh. shape_at sh []) (elementary_shape 64 x.variable.kind y.elem f.1)))

@@ -18,7 +18,6 @@ use std::sync::Arc;
 
 /// The plays of a scenario with their sources and phases, and which plays have their entries. Plays are numbered from 1.
 /// The cycles and resets of a task are one list, and all changes are one.
-#[derive(Drop)]
 pub struct Progress {
     plays: Arc<Items<Play>>,
     sources: Arc<Names<Text>>,
@@ -33,6 +32,33 @@ pub struct Progress {
     // The first play without an entry, of each list and of all.
     next: Vec<u32>,
     first: u32,
+}
+
+// By hand, so that a drop is one call: a derived one is written out wherever a `?` may need it.
+impl Drop for Progress {
+    fn drop(self) {
+        let Progress {
+            plays,
+            sources,
+            phases,
+            names,
+            lanes,
+            numbers,
+            following,
+            done,
+            next,
+            first: _,
+        } = self;
+        drop(plays);
+        drop(sources);
+        drop(phases);
+        drop(names);
+        drop(lanes);
+        drop(numbers);
+        drop(following);
+        drop(done);
+        drop(next);
+    }
 }
 
 impl Model for Progress {

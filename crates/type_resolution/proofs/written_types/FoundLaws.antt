@@ -34,11 +34,8 @@ module _ (s : Scope) where
       at true = value-untold Anything e b h f
       at false = refl
 
-  pub bound-other : (e : Expression ℕ) (c : Bool) (t : Option StType) → t ≡ type_of s Anything e → c ≡ is_number_type t → c ≡ false → None ≡ bound_value s e
-  bound-other e c t g h f = sym (ap (λ c. if c then told_value s Anything e else None) (sym (ap is_number_type g) ∙ sym h ∙ f))
-
-  pub bound-told : (e : Expression ℕ) (c : Bool) (t : Option StType) (r : Option ℤ) → t ≡ type_of s Anything e → c ≡ is_number_type t → c ≡ true → r ≡ told_value s Anything e → r ≡ bound_value s e
-  bound-told e c t r g h f k = k ∙ sym (ap (λ c. if c then told_value s Anything e else None) (sym (ap is_number_type g) ∙ sym h ∙ f))
+  pub bound-told : (e : Expression ℕ) (t : Option StType) (n r : Option ℤ) → t ≡ type_of s Anything e → n ≡ told_value s Anything e → r ≡ (if is_number_type t then n else None) → r ≡ bound_value s e
+  bound-told e t n r g h k = k ∙ ap (λ m. if is_number_type t then m else None) h ∙ ap (λ u. if is_number_type u then told_value s Anything e else None) g
 
   -- ---- constants
 

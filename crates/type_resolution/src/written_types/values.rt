@@ -1,6 +1,6 @@
 //! Values of constant expressions, where they can be told.
 
-ghost use Rattle.std.specs.Prelude.{◌≡◌, IfOk};
+ghost use Rattle.std.specs.Prelude.{◌≡◌, if◌then◌else◌, None, IfOk};
 ghost use Rattle.st_tree.specs.Expression.{expression_of};
 ghost use Rattle.st_unit_rules.specs.declared_names.Constants as constants;
 ghost use Rattle.st_unit_rules.specs.declared_names.WrittenTypes as written;
@@ -42,6 +42,13 @@ pub fn is_number_type(kind: &Option<StType>) -> bool
     }
 }
 
+/// A number, where it is one of integers or bit strings.
+fn if_number(kind: &Option<StType>, number: Option<i128>) -> Option<i128>
+    ensures { result ≡ (if written.is_number_type kind.now then number else None) }
+{
+    if is_number_type(kind) { number } else { None }
+}
+
 /// The value of a bound, where it is an integer or a bit string that can be told.
 pub fn bound_value(alloc: Global, s: &Scope<'_>, e: &Expr<u32>) -> Result<Option<i128>, NoMemory>
     ensures { IfOk result (λ v. v ≡ written.bound_value s.now (expression_of e.now)) }
@@ -50,9 +57,5 @@ pub fn bound_value(alloc: Global, s: &Scope<'_>, e: &Expr<u32>) -> Result<Option
         return Ok(None);
     }
     let constant = check_constant(alloc, s, e, &Asked::Anything)?;
-    if is_number_type(&constant.told) {
-        Ok(constant.number)
-    } else {
-        Ok(None)
-    }
+    Ok(if_number(&constant.told, constant.number))
 }

@@ -1,11 +1,12 @@
 -- Calls: what is called is there, and arguments suit whatever the call may enter.
-use Rattle.std.specs.Prelude.{◌≡◌, ◌≤◌, ◌||◌, if◌then◌else◌, ℕ, suc, nat_eq, Bool, true, false, List, [], ◌∷◌, ◌++◌, length, Option, Some, None, IsTrue, slice_get}
+use Rattle.std.specs.Prelude.{◌≡◌, ◌≤◌, if◌then◌else◌, ℕ, suc, true, false, List, [], ◌∷◌, ◌++◌, length, Option, Some, None, IsTrue, slice_get}
 use Rattle.plc_text.specs.Words.{same}
 use Rattle.st_types.specs.declared.st_type.StType.{StType}
 use Rattle.st_types.specs.declared.st_type.StType.TheVariants as type
 use Rattle.st_tree.specs.declared.declaration.SectionSort.TheVariants as sort
 use Rattle.st_tree.specs.declared.program.Note.{Note}
 use Rattle.st_tree.specs.Expression.{Expression, Positional, Input, Output, Arguments, no_arguments, argument_then}
+use Rattle.st_rules.specs.Chains.{is_among}
 use Rattle.st_values.specs.Initial.{note_of}
 use Rattle.st_values.specs.Program.{Variable, Recipient, to_local, to_variable, Parameter, Routine, Signature, Program, class_variables, conforms, lookup, body_of}
 use Rattle.st_values.specs.Shape.{Instance, Fields, path_shape}
@@ -66,13 +67,9 @@ written_numbers i left (argument_then (Positional e) xs) = next_number i left �
 written_numbers i left (argument_then (Input a name e) xs) = parameter_number a.target ∷ written_numbers i left xs
 written_numbers i left (argument_then (Output a name b r ss) xs) = parameter_number a.target ∷ written_numbers i left xs
 
-abbrev pub is_in : ℕ → List ℕ → Bool
-is_in k [] = false
-is_in k (n ∷ ns) = nat_eq n k || is_in k ns
-
 abbrev pub Distinct : List ℕ → Type 0
 Distinct [] = Unit {0}
-Distinct (n ∷ ns) = (is_in n ns ≡ false) × Distinct ns
+Distinct (n ∷ ns) = (is_among n ns ≡ false) × Distinct ns
 
 -- no two arguments go to one parameter
 abbrev pub GivenOnce : List Parameter → Arguments Note → Type 0

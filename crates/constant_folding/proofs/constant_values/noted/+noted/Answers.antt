@@ -46,21 +46,6 @@ noted_value-returns-in-Ref t c = leaf_arm _ _ _ c.in-Ref.is (value_ref _ _)
 pub noted_value-returns-in-Now : goal.noted_value-returns-in-Now
 noted_value-returns-in-Now t c = leaf_arm _ _ _ c.in-Now.is (value_now _)
 
-pub noted_value-returns-in-True : goal.noted_value-returns-in-True
-noted_value-returns-in-True t c = leaf_arm _ _ _ c.in-True.is (value_true _)
-
-pub noted_value-returns-in-False : goal.noted_value-returns-in-False
-noted_value-returns-in-False t c = leaf_arm _ _ _ c.in-False.is (value_false _)
-
-pub noted_value-returns-in-Null : goal.noted_value-returns-in-Null
-noted_value-returns-in-Null t c = leaf_arm _ _ _ c.in-Null.is (value_null _)
-
-pub noted_value-returns-in-Ref : goal.noted_value-returns-in-Ref
-noted_value-returns-in-Ref t c = leaf_arm _ _ _ c.in-Ref.is (value_ref _ _)
-
-pub noted_value-returns-in-Now : goal.noted_value-returns-in-Now
-noted_value-returns-in-Now t c = leaf_arm _ _ _ c.in-Now.is (value_now _)
-
 pub row_value-loop-tail-init : goal.row_value-loop-tail-init
 row_value-loop-tail-init t c = row_begun _ _
 

@@ -2,8 +2,8 @@ use Rattle.std.proofs.Common.{◌≡◌, drop, false}
 use Rattle.st_tree.specs.Expression.{selectors_of}
 use Rattle.st_rules.specs.Places.{in_outer_output}
 use Rattle.check_places.specs.Standing.{standing}
-use Rattle.check_places.specs.Private.Fixed.{within}
-use Rattle.check_places.proofs.fixed.in_outer_output.Given as goal
+use Rattle.check_places.specs.Private.Assignability.{within}
+use Rattle.check_places.proofs.assignability.in_outer_output.Given as goal
 
 -- the selectors that are left tell what all do
 abbrev pub invariant-loop-selector : goal.invariant-loop-selector

@@ -1,4 +1,4 @@
--- What is fixed, by the cases that the code tells apart.
+-- What may not be written, by the cases that the code tells apart.
 use Rattle.std.proofs.Common.{◌≡◌, ℕ, Bool, List, refl, ap, ◌∙◌}
 use Rattle.std.specs.Prelude.{if◌then◌else◌, ◌||◌, false}
 use Rattle.st_tree.specs.declared.expression.Root.{Root}

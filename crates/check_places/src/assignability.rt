@@ -7,7 +7,7 @@ ghost use Rattle.st_rules.specs.Scope.{Scope as AScope, sought, dot_qualifier};
 ghost use Rattle.st_rules.specs.Places as places;
 ghost use Rattle.name_resolution.specs.Meant.{meant, qualifier};
 ghost use Rattle.check_places.specs.Standing.{standing, parted};
-ghost use Rattle.check_places.specs.Private.Fixed.{within};
+ghost use Rattle.check_places.specs.Private.Assignability.{within};
 
 use crate::parts::part_of;
 use crate::places::{begins_with_field, placed, root_standing, selected};

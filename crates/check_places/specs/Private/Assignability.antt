@@ -3,7 +3,7 @@ use Rattle.std.specs.Prelude.{ℕ, Bool}
 use Rattle.st_tree.specs.Expression.{Selectors}
 use Rattle.st_rules.specs.Scope.{Scope}
 use Rattle.st_rules.specs.Places.{in_outer_output}
-use Rattle.check_places.specs.declared.fixed.Within.{Within}
+use Rattle.check_places.specs.declared.assignability.Within.{Within}
 use Rattle.check_places.specs.Standing.{standing}
 
 abbrev pub within : Scope → Within → Selectors ℕ → Bool

@@ -2,7 +2,7 @@ use Rattle.std.proofs.Common.{◌≡◌, sym, ap, ◌∙◌, false}
 use Rattle.std.specs.Prelude.{◌||◌}
 use Rattle.st_rules.specs.Scope.{sought, dot_qualifier}
 use Rattle.st_rules.specs.Places.{qualifies, is_no_variable}
-use Rattle.check_places.proofs.fixed.is_fixed_before_field.Goals as goal
+use Rattle.check_places.proofs.assignability.is_fixed_before_field.Goals as goal
 
 pub returns-then-qualifies : goal.returns-then-qualifies
 returns-then-qualifies c =
