@@ -11,13 +11,14 @@ use Rattle.st_tree.specs.declared.program.Note.{Note}
 use Rattle.st_tree.specs.Expression.{Positional, Input, Output, Arguments, no_arguments, argument_then}
 use Rattle.st_rules.proofs.Booleans.{some-same, both, neither}
 use Rattle.st_rules.specs.declared.names.DeclaredVariable.{DeclaredVariable}
+use Rattle.st_rules.specs.Chains.{is_among}
 use Rattle.st_rules.specs.Faults.{when}
 use Rattle.st_rules.specs.Scope.{Scope}
 use Rattle.st_rules.specs.Calls.{is_unnamed, is_named, heads, names_input, names_output, names_among, is_given, is_taken, parameter_from, Matched, matched, matches, has_right_number, given_from, positional_and_named_mixed, wrong_number_of_positional, unknown_or_repeated, named_unknown_or_twice, in_out_left_out, matching_faults}
 use Rattle.st_rules.specs.Expressions.{typed_arguments, matched_target}
 use Rattle.st_values.specs.Program.{Parameter}
 use Rattle.st_meaning.specs.Call.{is_output, parameter_number, behind_next}
-use Rattle.st_meaning.specs.st_frame.Promise.Calls.{next_number, written_numbers, is_in, Distinct, GivenOnce}
+use Rattle.st_meaning.specs.st_frame.Promise.Calls.{next_number, written_numbers, Distinct, GivenOnce}
 use Rattle.place_laws.proofs.Words.{none_in, not_when, four}
 
 -- ---- numbers
@@ -33,12 +34,12 @@ further i k (n ∷ ns) h f = let l = f.0 in (omega (arith, h, l), further i k ns
 no_less : (k n : ℕ) → suc k ≤ n → n ≡ k → ⊥
 no_less k n h e = omega (arith, h, e)
 
-not_above : (k : ℕ) (ns : List ℕ) → AllFrom (suc k) ns → is_in k ns ≡ false
+not_above : (k : ℕ) (ns : List ℕ) → AllFrom (suc k) ns → is_among k ns ≡ false
 not_above k [] h = refl
-not_above k (n ∷ ns) h = by (nat_eq n k) refl (not_above k ns h.1)
+not_above k (n ∷ ns) h = by (nat_eq k n) refl (not_above k ns h.1)
   where
-    by : (b : Bool) → nat_eq n k ≡ b → is_in k ns ≡ false → (b || is_in k ns) ≡ false
-    by true e f = absurd (no_less k n h.0 (eqb-true n k e))
+    by : (b : Bool) → nat_eq k n ≡ b → is_among k ns ≡ false → (b || is_among k ns) ≡ false
+    by true e f = absurd (no_less k n h.0 (sym (eqb-true k n e)))
     by false e f = f
 
 next_from : (i : ℕ) (left : List Parameter) → i ≤ next_number i left
@@ -115,12 +116,12 @@ another vs earlier name v k n there named f e =
     let u : same f.name name ≡ false = last_among f.name earlier name f.fresh in
     cc
 
-not_fresh : (vs : List DeclaredVariable) (earlier : List (List ℕ)) (name : List ℕ) (v : DeclaredVariable) (k : ℕ) (ns : List ℕ) → slice_get vs k ≡ Some v → same v.name name ≡ true → AllFresh vs (earlier ++ name ∷ []) ns → is_in k ns ≡ false
+not_fresh : (vs : List DeclaredVariable) (earlier : List (List ℕ)) (name : List ℕ) (v : DeclaredVariable) (k : ℕ) (ns : List ℕ) → slice_get vs k ≡ Some v → same v.name name ≡ true → AllFresh vs (earlier ++ name ∷ []) ns → is_among k ns ≡ false
 not_fresh vs earlier name v k [] there named h = refl
-not_fresh vs earlier name v k (n ∷ ns) there named h = by (nat_eq n k) refl (not_fresh vs earlier name v k ns there named h.1)
+not_fresh vs earlier name v k (n ∷ ns) there named h = by (nat_eq k n) refl (not_fresh vs earlier name v k ns there named h.1)
   where
-    by : (b : Bool) → nat_eq n k ≡ b → is_in k ns ≡ false → (b || is_in k ns) ≡ false
-    by true e f = absurd (another vs earlier name v k n there named h.0 (eqb-true n k e))
+    by : (b : Bool) → nat_eq k n ≡ b → is_among k ns ≡ false → (b || is_among k ns) ≡ false
+    by true e f = absurd (another vs earlier name v k n there named h.0 (sym (eqb-true k n e)))
     by false e f = f
 
 -- the parameter of a name stands at its number
