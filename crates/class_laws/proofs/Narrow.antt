@@ -30,11 +30,11 @@ among_range : (i a n : ℕ) → a ≤ i → i < a + n → is_among i (range_with
 among_range i a zero h k = absurd (omega (arith, h, k))
 among_range i a (suc n) h k = elim (cases (nat_eq i a)) [
   | inl e ↦ or-first (nat_eq i a) (is_among i (range_with_len (a + 1) n)) e
-  | inr e ↦ or-second (nat_eq i a) (is_among i (range_with_len (a + 1) n)) (later (differ_from_test i a e))
+  | inr e ↦ or-second (nat_eq i a) (is_among i (range_with_len (a + 1) n)) (later (differ_from_test i a e) (λ l m. among_range i (a + 1) n l m))
 ]
   where
-    later : (i ≡ a → ⊥) → is_among i (range_with_len (a + 1) n) ≡ true
-    later d = among_range i (a + 1) n (omega (arith, h, d)) (omega (arith, k))
+    later : (i ≡ a → ⊥) → (a + 1 ≤ i → i < (a + 1) + n → is_among i (range_with_len (a + 1) n) ≡ true) → is_among i (range_with_len (a + 1) n) ≡ true
+    later d f = f (omega (arith, h, d)) (omega (arith, k))
 
 module _ (p : Checked) where
   abbrev Seen : Program

@@ -174,11 +174,11 @@ module _ (decls : List (Decl ℕ)) (p : Program) (checked : IsChecked decls p) w
       ∙ ap (λ o. own_prototype is name i or_else o)
       (ap (λ ks. option_and_then (prototype_within p.interfaces name n) (first_with (has_prototype p.interfaces name) ks)) (extended_same i)
       ∙ (ap (option_and_then (prototype_within p.interfaces name n)) (first_same (has_prototype p.interfaces name) (has_prototype is name) (has_same name) (extended is i))
-      ∙ on (first_with (has_prototype is name) (extended is i))))
+      ∙ on (λ j. within_same name n j) (first_with (has_prototype is name) (extended is i))))
     where
-      on : (o : Option ℕ) → option_and_then (prototype_within p.interfaces name n) o ≡ option_and_then (prototype_within is name n) o
-      on None = refl
-      on (Some j) = within_same name n j
+      on : ((j : ℕ) → prototype_within p.interfaces name n j ≡ prototype_within is name n j) → (o : Option ℕ) → option_and_then (prototype_within p.interfaces name n) o ≡ option_and_then (prototype_within is name n) o
+      on h None = refl
+      on h (Some j) = h j
 
   pub interface_lookup_same : (i : ℕ) (name : List ℕ) → interface_lookup p.interfaces i name ≡ interface_lookup is i name
   unfolding interface_lookup

@@ -36,7 +36,7 @@ by_sorts n (v ∷ vs) = ap (λ l. record { sort = v.sort; to = to_local n } ∷ 
 
 -- ---- equal signatures
 
-sort_same : (a b : SectionSort) → same_sort a b ≡ true → a ≡ b
+pub sort_same : (a b : SectionSort) → same_sort a b ≡ true → a ≡ b
 sort_same sort.Var sort.Var h = refl
 sort_same sort.Input sort.Input h = refl
 sort_same sort.Output sort.Output h = refl

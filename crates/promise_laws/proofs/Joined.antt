@@ -1,5 +1,5 @@
 -- What is declared, the bodies and the chains of classes together are the promise.
-use Rattle.std.proofs.Common.{◌≡◌, ℕ, Bool, true, false, List, [], ◌∷◌, map, Option, Some, None, refl, sym, ap, ◌∙◌, subst, inl, inr}
+use Rattle.std.proofs.Common.{◌≡◌, ℕ, Bool, true, false, List, [], ◌∷◌, map, reverse, Option, Some, None, refl, sym, ap, ◌∙◌, subst, inl, inr}
 use Rattle.std.specs.Prelude.{if◌then◌else◌, slice_get}
 use Rattle.std.proofs.lemmas.Option.{slice_get-map}
 use Rattle.plc_text.specs.Words.{same}
@@ -7,11 +7,11 @@ use Rattle.st_tree.specs.declared.program.Program.{Program as Checked}
 use Rattle.st_tree.specs.declared.program.Note.{Note}
 use Rattle.st_tree.specs.declared.declaration.Method.{Method}
 use Rattle.st_rules.specs.Chains.{nearest, ◌or_else◌}
-use Rattle.st_rules.specs.Classes.{methods_in}
+use Rattle.st_rules.specs.Classes.{methods_in, chain}
 use Rattle.st_rules.proofs.Booleans.{none≢some, some-same}
 use Rattle.st_values.specs.Program as seen
 use Rattle.st_values.specs.Program.{Routine, Class, class_at, chain_of, named, own_method, lookup, body_of, body_in}
-use Rattle.st_values.specs.View.{method_of, function_of, program_of}
+use Rattle.st_values.specs.View.{method_of, function_of, variables_in, declared_along, program_of}
 use Rattle.st_values.proofs.ShapeLaws.{mapped_some}
 use Rattle.st_meaning.specs.st_frame.Promise.Declarations.{RoutineIs, AreApart}
 use Rattle.st_meaning.specs.st_frame.Promise.Programs.{ProgramIs}
@@ -70,8 +70,8 @@ module _ (p : Checked) where
       by : (o : Option Class) → class_at (program_of p) c ≡ o → body_in o ≡ Some r → AreApart r.parameters
       by None q f = absurd (none≢some f)
       by (Some k) q f = subst (λ (x : Routine). AreApart x.parameters) (some-same f) (elim (by_number p c k q) [
-        | inl a ↦ subst (λ (x : Class). AreApart x.body.parameters) (sym a.is) (bodies_apart _ 0 0)
-        | inr a ↦ subst (λ (x : Routine). AreApart x.parameters) (sym a.shown.is) (bodies_apart _ 0 0)
+        | inl a ↦ subst (λ (x : Class). AreApart x.body.parameters) (sym a.is) (bodies_apart (declared_along p.classes (reverse (chain p.classes c))) 0 0)
+        | inr a ↦ subst (λ (x : Routine). AreApart x.parameters) (sym a.shown.is) (bodies_apart (variables_in a.shown.text.sections) 0 0)
       ])
 
   -- ---- functions

@@ -242,8 +242,8 @@ module _ (decls : List (Decl ℕ)) (p : Checked) (checked : IsChecked decls p) w
   signed_as i name g e (n ∷ ns) h = by (Meant i n) refl (signed_as i name g e ns)
     where
       onward : (list_any (same name) ns ≡ true → SignedAs i name ns g) → (n ≡ name → ⊥) → SignedAs i name ns g
-      onward later no = elim (either (same name n) (list_any (same name) ns) h) [
-        | inl q ↦ absurd (no (sym (same_is name n q)))
+      onward later never = elim (either (same name n) (list_any (same name) ns) h) [
+        | inl q ↦ absurd (never (sym (same_is name n q)))
         | inr q ↦ later q
       ]
 
