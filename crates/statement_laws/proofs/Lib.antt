@@ -1,0 +1,4 @@
+pub mod Assigned
+pub mod Bodies
+pub mod Worths
+pub mod Starts
