@@ -1,4 +1,2 @@
 pub mod Assigned
 pub mod Bodies
-pub mod Worths
-pub mod Starts

@@ -1,4 +1,4 @@
-//! What is promised of statements, constants and initial values, where the rules and the meaning agree on what names are.
+//! What is promised of statements, where the rules and the meaning agree on what names are.
 #![tactic(auto)]
 
 mod laws;
