@@ -1,3 +1,4 @@
+pub mod Same
 pub mod Needs
 pub mod Above
 pub mod Narrow
