@@ -1,0 +1,2 @@
+//! What is promised of the declarations of an accepted program.
+#![tactic(auto)]
