@@ -1,5 +1,5 @@
 -- A constant expression whose names are all told and that breaks no rule has a type, and comes to a number of it.
-use Rattle.std.proofs.Common.{◌≡◌, ℕ, ℤ, Bool, true, false, [], ◌++◌, Option, Some, None, refl, sym, ap, ◌∙◌, subst, arith}
+use Rattle.std.proofs.Common.{◌≡◌, ℕ, ℤ, Bool, true, false, List, [], ◌++◌, Option, Some, None, refl, sym, ap, ◌∙◌, subst, arith}
 use Rattle.std.specs.Prelude.{pos, if◌then◌else◌, ◌&&◌, option_map}
 use Rattle.std.specs.Option.{is_some}
 use Rattle.plc_num.specs.Arithmetic.{difference}
@@ -31,10 +31,11 @@ use Rattle.st_values.specs.Program.{Program}
 use Rattle.st_meaning.specs.st_frame.Promise.Types.{NumberIs}
 use Rattle.st_meaning.proofs.st_frame.OfTypes.{wraps_fit, bit_fits, converted_fits}
 use Rattle.accepted_texts.proofs.told_units.TypeLaws.{HasItsType, ValuesHaveTypes, AsksForTold, none-of, asks-number, asks-of, asks-front, asks-operand, asks-anything, conversion-called, passes}
+use Rattle.place_laws.specs.Agrees.{ConstantIs}
 use Rattle.place_laws.proofs.Operators.{operation}
 use Rattle.place_laws.proofs.Literals.{int_is, negative_is, typed_is, time_is, null_held}
 use Rattle.declaration_laws.specs.Given.{NumberOf}
-use Rattle.declaration_laws.proofs.Numbers.{OutcomeOf, Right, literal_fits, literal_right, typed_right, lasting, held, unary, operated_of, assigned_number}
+use Rattle.declaration_laws.proofs.Numbers.{OutcomeOf, Right, number_of_type, literal_fits, literal_right, typed_right, lasting, held, unary, operated_of, assigned_number}
 
 there : (o : Option StType) → is_some o ≡ true → (t : StType) × (o ≡ Some t)
 there None h = absurd (cc)
@@ -52,8 +53,17 @@ module _ (p : Program) where
   -- ---- what names mean
 
   -- what is told of a constant is a number of its type
+  abbrev pub ConstantFits : StType → Target → Type 0
+  ConstantFits t target.Nothing = Unit {0}
+  ConstantFits t x = ConstantIs p x t
+
   abbrev pub ValueFits : DeclaredVariable → Type 0
-  ValueFits v = v.constant ≡ true → (t : StType) → v.kind ≡ Some t → OutcomeOf p t (target_value v.target)
+  ValueFits v = v.constant ≡ true → (t : StType) → v.kind ≡ Some t → ConstantFits t v.target
+
+  fitting : (t : StType) (x : Target) → ConstantFits t x → OutcomeOf p t (target_value x)
+  fitting t (target.Constant z) h = number_of_type p t z h.0
+  fitting t (target.Enumerator k) h = absurd h
+  fitting t _ h = tt
 
   abbrev pub MeantFits : Option Meant → Type 0
   MeantFits (Some (a_variable c v)) = ValueFits v
@@ -61,7 +71,7 @@ module _ (p : Program) where
   MeantFits _ = Unit {0}
 
   pub record ScopeFits (s : Scope) : Type 0 where
-    pub each : (name : List ℕ) → MeantFits (sought s false name)
+    pub each : (called : Bool) (name : List ℕ) → MeantFits (sought s called name)
     pub values : (n : ℕ) (name : List ℕ) (k : ℕ) → value_of s n name ≡ Some k → NumberIs p (type.Enumeration n) (pos k)
 
   module _ (s : Scope) where
@@ -73,7 +83,7 @@ module _ (p : Program) where
         record {
           kind = t.0;
           told = ap (λ o. standing_type (standing_of o)) t.1;
-          value = subst (λ b. OutcomeOf p t.0 (target_value (if b then v.target else target.Nothing))) (sym q.0) (f q.0 t.0 t.1);
+          value = subst (λ b. OutcomeOf p t.0 (target_value (if b then v.target else target.Nothing))) (sym q.0) (fitting t.0 v.target (f q.0 t.0 t.1));
         }
     meant_right (Some (scope.a_method id)) w f h = absurd (cc)
     meant_right (Some (a_function k r)) w f h = absurd (cc)
@@ -98,7 +108,7 @@ module _ (p : Program) where
 
       place_right : ValuesHaveTypes s → (r : Root ℕ) (ss : Selectors ℕ) → is_told (whole_target s r ss) ≡ true → Right p (place_type s r ss) (target_value (whole_target s r ss))
       unfolding whole_target root_standing placed selected
-      place_right w (root.Name l name) no_selectors h = meant_right (sought s false name) (w.each name) (fit.each name) h
+      place_right w (root.Name l name) no_selectors h = meant_right (sought s false name) (w.each name) (fit.each false name) h
       place_right w (root.Name l name) (selector_then (Field j n) no_selectors) h = qualified_right (dot_qualifier s name) name n h
       place_right w r ss h = absurd (cc)
 

@@ -1,2 +1,5 @@
 pub mod Numbers
 pub mod Constants
+pub mod Scopes
+pub mod Steps
+pub mod Starts

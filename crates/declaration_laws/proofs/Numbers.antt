@@ -12,20 +12,27 @@ use Rattle.st_tree.specs.declared.expression.Operator.{Operator}
 use Rattle.st_tree.specs.declared.expression.Operator.TheVariants as operator
 use Rattle.st_tree.specs.declared.expression.Literal.{Literal}
 use Rattle.st_tree.specs.declared.expression.Literal.TheVariants as literal
+use Rattle.st_tree.specs.declared.program.Target.TheVariants as target
 use Rattle.st_rules.specs.Expressions.{operand_unsuited}
 use Rattle.st_rules.specs.Kinds.{converts, is_assignable, unary_type}
 use Rattle.st_rules.specs.Literals.{literal_number}
 use Rattle.st_rules.specs.Scope.{Scope}
 use Rattle.st_rules.specs.Types.{same_type}
-use Rattle.st_rules.proofs.Booleans.{either, false≢true}
+use Rattle.st_rules.proofs.Booleans.{either, false≢true, some-same}
 use Rattle.st_rules.proofs.KindLaws.{reaches_decides}
 use Rattle.st_rules.proofs.TypeLaws.{type_decided}
 use Rattle.st_unit_rules.specs.declared_names.Constants.{Outcome, comes_to, divides_by_zero, cannot_be_told, kind_in, literal_outcome, duration_outcome, operated, outcome_map, result_of, both, if_true, if_false, is_division, is_zero, truth}
+use Rattle.st_unit_rules.specs.declared_names.Variables.{may_be_constant}
 use Rattle.st_values.specs.Program.{Program}
+use Rattle.st_values.specs.Shape.{Shape, shape_by, shape_within}
+use Rattle.st_values.specs.Shape as shape
+use Rattle.st_values.specs.Value.{number}
 use Rattle.st_meaning.specs.Operation.{literal_value}
-use Rattle.st_meaning.specs.st_frame.Promise.Types.{IsBool, IsHeld}
+use Rattle.st_meaning.specs.st_frame.Promise.Types.{NumberIs, IsBool, IsHeld}
+use Rattle.st_meaning.specs.st_frame.Good.{Fit}
 use Rattle.st_meaning.specs.st_frame.Promise.Operators.{Common, OperationIs}
 use Rattle.st_meaning.proofs.st_frame.OfTypes.{wraps_fit, bit_fits}
+use Rattle.place_laws.specs.Agrees.{ConstantIs}
 use Rattle.place_laws.proofs.Operators.{elementary_is, unary_same, unary_taken}
 use Rattle.place_laws.proofs.Literals.{LiteralIs}
 use Rattle.declaration_laws.specs.Given.{NumberOf}
@@ -79,6 +86,20 @@ module _ (p : Program) where
       by : (b : Bool) → OutcomeOf (type.Elementary elem.Time) (if b then comes_to (pos n) else cannot_be_told)
       by true = h
       by false = tt
+
+  -- of what may be constant, by its shape or without
+  pub number_of_type : (t : StType) (z : ℤ) → NumberIs p t z → NumberOf p t z
+  number_of_type (type.Elementary e) z h = by h.0 (some-same (sym (ap (shape_by p (shape_within p 64)) (type.outs-Elementary e)) ∙ h.1)) h.2
+    where
+      by : (sh : Shape) → shape.Elementary e ≡ sh → Fit p sh (number z) → Fits e z
+      by sh q k = subst (λ x. Fit p x (number z)) (sym q) k
+  number_of_type (type.Enumeration n) z h = h
+  number_of_type _ z h = tt
+
+  pub constant_number : (t : StType) (z : ℤ) → may_be_constant t ≡ true → NumberOf p t z → ConstantIs p (target.Constant z) t
+  constant_number (type.Elementary e) z h n = ((shape.Elementary e, ap (shape_by p (shape_within p 64)) (type.outs-Elementary e), n), tt)
+  constant_number (type.Enumeration k) z h n = (n, tt)
+  constant_number _ z h n = absurd (false≢true h)
 
   pub held : (t : StType) (z : ℤ) → IsHeld t → NumberOf p t z
   held (type.Reference c) z h = tt
