@@ -3,3 +3,8 @@ pub mod Constants
 pub mod Scopes
 pub mod Steps
 pub mod Starts
+pub mod Items
+pub mod Parts
+pub mod Living
+pub mod Places
+pub mod Alive

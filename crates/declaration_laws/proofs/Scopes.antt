@@ -16,9 +16,9 @@ use Rattle.st_rules.specs.Classes.{chain, lookup}
 use Rattle.st_rules.specs.Named.{first_place}
 use Rattle.st_rules.specs.Numbered.{each_numbered}
 use Rattle.st_rules.specs.Scope.{Scope, Meant, a_variable, a_method, an_enumerator, variable_named, first_named, global_name, global_meaning, global_named, variables_of, value_names, value_named, value_of, is_external, is_inherited, meant_by, of_class, own_entry, base_entry, class_entry, local_entry, entry, method_meaning, enumerator_meaning, only_enumerator, meaning_behind, sought}
-use Rattle.st_rules.proofs.Booleans.{none≢some, some-same}
+use Rattle.st_rules.proofs.Booleans.{none≢some}
+use Rattle.st_rules.proofs.ClassLaws.{first_place_within}
 use Rattle.st_values.specs.Program.{Program}
-use Rattle.st_values.proofs.ShapeLaws.{mapped_some}
 use Rattle.st_meaning.specs.st_frame.Promise.Types.{NumberIs}
 use Rattle.resolution_order.specs.told_laws.ToldLaws.{Every, TellsKind, TellsKinds}
 use Rattle.accepted_texts.proofs.told_units.ScopeLaws.{values-have-types}
@@ -29,14 +29,6 @@ use Rattle.declaration_laws.proofs.Constants.{ValueFits, MeantFits, ScopeFits}
 pick : {X : Type 0} (P : X → Type 0) (b : Bool) (x y : X) → P x → P y → P (if b then x else y)
 pick P true x y h k = h
 pick P false x y h k = k
-
-place_below : (name : List ℕ) (ns : List (List ℕ)) (k : ℕ) → first_place name ns ≡ Some k → k < length ns
-place_below name [] k e = absurd (none≢some e)
-place_below name (n ∷ ns) k e = by (same n name) e
-  where
-    by : (b : Bool) → (if b then Some 0 else option_map suc (first_place name ns)) ≡ Some k → k < suc (length ns)
-    by true q = let z : 0 ≡ k = some-same q in omega (arith, z)
-    by false q = let m = mapped_some suc (first_place name ns) k q in let h = place_below name ns m.0 m.1 in let z : suc m.0 ≡ k = m.2 in omega (arith, h, z)
 
 module _ (p : Program) where
   -- ---- variables
@@ -130,7 +122,7 @@ module _ (p : Program) where
     where
       by : (o : Option ℕ) → first_place name (value_names t) ≡ o → Every IsValue (found_value n o)
       by None e = tt
-      by (Some k) e = (h k (place_below name (value_names t) k e), tt)
+      by (Some k) e = (h k (first_place_within name (value_names t) k e), tt)
 
   all_named : (name : List ℕ) (n : ℕ) (ts : List TypeParts) → ((i : ℕ) (t : TypeParts) (k : ℕ) → slice_get ts i ≡ Some t → k < length (value_names t) → NumberIs p (type.Enumeration (n + i)) (pos k)) → Every IsValue (each_numbered (value_named name) n ts)
   all_named name n [] h = tt
@@ -189,7 +181,7 @@ module _ (p : Program) where
       where
         by : (o : Option TypeParts) → slice_get s.names.parts n ≡ o → first_place name (value_names (parts_in o)) ≡ Some k → NumberIs p (type.Enumeration n) (pos k)
         by None q f = absurd (none≢some f)
-        by (Some t) q f = h.names.values n t k q (place_below name (value_names t) k f)
+        by (Some t) q f = h.names.values n t k q (first_place_within name (value_names t) k f)
 
     pub scope_fits : ScopeFits p s
     unfolding sought

@@ -52,7 +52,7 @@ module _ (s : Scope) where
     pub initial : v.initial ≡ option_map (λ i. typed_initial s (type_written s w.item.kind) (initial_of i)) w.item.initial
     pub address : v.address ≡ w.item.address
 
-  given_same : (t : TypeSpec ℕ) (i : Option (Init ℕ)) (j : Option (Init Note)) → IfThere (TypedInitial s t) i j → initial_in j ≡ option_map (λ k. typed_initial s (type_written s t) (initial_of k)) i
+  pub given_same : (t : TypeSpec ℕ) (i : Option (Init ℕ)) (j : Option (Init Note)) → IfThere (TypedInitial s t) i j → initial_in j ≡ option_map (λ k. typed_initial s (type_written s t) (initial_of k)) i
   given_same t None None h = refl
   given_same t None (Some j) h = absurd h
   given_same t (Some i) None h = absurd h
