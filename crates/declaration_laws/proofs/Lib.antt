@@ -5,6 +5,11 @@ pub mod Steps
 pub mod Starts
 pub mod Items
 pub mod Parts
-pub mod Living
 pub mod Places
+pub mod Living
 pub mod Alive
+pub mod Names
+pub mod Fields
+pub mod Members
+pub mod Initials
+pub mod Knowing
