@@ -24,7 +24,7 @@ numbered_none f n (y ∷ xs) h zero x e = let q : n ≡ n + 0 = omega arith in s
 numbered_none f n (y ∷ xs) h (suc i) x e = let q : suc n + i ≡ n + suc i = omega arith in subst (λ k. f k x ≡ []) q (numbered_none f (suc n) xs (none_in (f n y) (each_numbered f (suc n) xs) h).1 i x e)
 
 -- the first of a name has it
-placed : {X : Type 0} (name_of : X → List ℕ) (name : List ℕ) (xs : List X) (k : ℕ) → first_place name (map name_of xs) ≡ Some k → (x : X) × (slice_get xs k ≡ Some x) × (same (name_of x) name ≡ true)
+pub placed : {X : Type 0} (name_of : X → List ℕ) (name : List ℕ) (xs : List X) (k : ℕ) → first_place name (map name_of xs) ≡ Some k → (x : X) × (slice_get xs k ≡ Some x) × (same (name_of x) name ≡ true)
 placed name_of name [] k e = absurd (none≢some e)
 placed name_of name (x ∷ xs) k e = by (same (name_of x) name) refl (λ j. placed name_of name xs j) e
   where

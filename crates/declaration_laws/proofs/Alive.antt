@@ -106,6 +106,12 @@ module _ (decls : List (Decl ℕ)) where
       by None e = refl
       by (Some d) e = let l = slice_get_within (classes_in decls) (length (classes_in decls) + k) d e in absurd (omega (arith, l))
 
+  -- the fields of a structure break no rule
+  pub structure_rules : BreaksNothing decls → (n : ℕ) (t : TypeDecl ℕ) (gs : List (FieldGroup ℕ)) → slice_get (entries_in decls) n ≡ Some t → t.body ≡ body.Structure gs → Every (λ g. group_faults decls g ≡ []) gs
+  structure_rules good n t gs e q =
+      let f = every_at (EntryFine decls good) (entries_in decls) n t (entries_fine decls good) e in
+      none_of_each (group_faults decls) gs (sym (ap (type_body_faults decls t.name.text) q) ∙ f.body)
+
 module _ (most : ℕ) (decls : List (Decl ℕ)) (p : Checked) (formed : IsFormed most decls) (good : BreaksNothing decls) (checked : IsChecked decls p) where
   abbrev unit : Scope
   unit = unit_scope decls (unit_names decls)
@@ -125,18 +131,13 @@ module _ (most : ℕ) (decls : List (Decl ℕ)) (p : Checked) (formed : IsFormed
       let b = none_in (type_faults unit g.kind) _ a.0 in
       subst (TypeLives decls) (sym i.kind) (holds_none decls (type_written unit g.kind) (not_when (holds_instances_told (type_written unit g.kind)) E07 _ b.1))
 
-  structure_fine : (n : ℕ) (t : TypeDecl ℕ) (gs : List (FieldGroup ℕ)) → slice_get (entries_in decls) n ≡ Some t → t.body ≡ body.Structure gs → Every (λ g. group_faults decls g ≡ []) gs
-  structure_fine n t gs e q =
-      let f = every_at (EntryFine decls good) (entries_in decls) n t (entries_fine decls good) e in
-      none_of_each (group_faults decls) gs (sym (ap (type_body_faults decls t.name.text) q) ∙ f.body)
-
   program_same : (d : ProgramDecl ℕ) → (program_scope decls (unit_names decls) d).classes ≡ classes_in decls
   unfolding program_scope
   program_same d = refl
 
   all_alive : Says decls p checked Alive
   all_alive = record {
-    fields = λ n t gs hs e q h. groups_say unit Alive (λ g. group_faults decls g ≡ []) one_field gs hs h (structure_fine n t gs e q);
+    fields = λ n t gs hs e q h. groups_say unit Alive (λ g. group_faults decls g ≡ []) one_field gs hs h (structure_rules decls good n t gs e q);
     classes = λ c d y e t.
         let s = class_scope decls (unit_names decls) c in
         let h = class_home decls d.sort in

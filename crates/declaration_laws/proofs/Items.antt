@@ -12,6 +12,7 @@ use Rattle.st_tree.specs.declared.declaration.SectionSort.{SectionSort}
 use Rattle.st_tree.specs.declared.declaration.SectionSort.TheVariants as sort
 use Rattle.st_tree.specs.declared.name.Used.{Used}
 use Rattle.st_tree.specs.declared.unit.Decl.{Decl}
+use Rattle.st_tree.specs.Declarations.{is_global}
 use Rattle.st_tree.specs.Initial.{initial_of}
 use Rattle.st_rules.specs.Chains.{is_among}
 use Rattle.st_rules.specs.Classes.{class_named, classes_in, methods_in, base_of, chain}
@@ -98,6 +99,16 @@ sections_formed ss h =
     (over FormedVars (λ x. Every WrittenFormed (section_written x))
     (λ x k. every_joined WrittenFormed (item_written x) x.items
     (over FormedItem (λ item. Every WrittenFormed (item_written x item)) (λ item j. every_mapped WrittenFormed _ item.names (every_one _ (λ n. j) item.names)) x.items k.section.items)) ss h)
+
+-- and none is a global
+abbrev pub IsLocalSort : Written → Type 0
+IsLocalSort w = is_global w.sort ≡ false
+
+pub sections_local : (ss : List (Section ℕ)) → formed.Every FormedVars ss → Every IsLocalSort (sections_written ss)
+sections_local ss h =
+    every_joined IsLocalSort section_written ss
+    (over FormedVars (λ x. Every IsLocalSort (section_written x))
+    (λ x k. every_joined IsLocalSort (item_written x) x.items (every_one (λ item. Every IsLocalSort (item_written x item)) (λ item. every_mapped IsLocalSort _ item.names (every_one _ (λ n. k.local) item.names)) x.items)) ss h)
 
 -- ---- classes, programs and globals
 

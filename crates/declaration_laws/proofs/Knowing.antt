@@ -35,7 +35,7 @@ use Rattle.st_unit_rules.specs.declared_names.Declarations.{an_entry, a_program,
 use Rattle.st_unit_rules.specs.declared_names.UnitNames.{unit_names, unit_scope, class_scope, program_scope}
 use Rattle.st_unit_rules.specs.declared_names.Variables.{Written, sections_written, sections_in, is_kept_written}
 use Rattle.st_unit_rules.specs.declared_names.WrittenTypes.{type_written, type_faults}
-use Rattle.st_unit_rules.specs.DeclarationRules.{class_home, group_faults, field_given, type_body_faults, program_limits}
+use Rattle.st_unit_rules.specs.DeclarationRules.{class_home, group_faults, field_given, program_limits}
 use Rattle.st_unit_rules.specs.Initials.{initial_faults, typed_initial}
 use Rattle.st_unit_rules.specs.UnitRefusal.{BreaksNothing}
 use Rattle.st_unit_rules.specs.VariableRules.{Home, of_program, initial_if_given, instance_out_of_place, sections_faults}
@@ -57,15 +57,16 @@ use Rattle.accepted_texts.proofs.sized_units.Variables.{IsOf}
 use Rattle.accepted_texts.proofs.told_units.Law.{program-rules}
 use Rattle.accepted_texts.proofs.told_units.Names.{IsToldType, IsToldNamed, named}
 use Rattle.accepted_texts.proofs.unfolding_laws.ChainLaws.{sections_typed}
-use Rattle.accepted_texts.proofs.unfolding_laws.CycleLaws.{none_in, none_of_each}
+use Rattle.accepted_texts.proofs.unfolding_laws.CycleLaws.{none_in}
 use Rattle.accepted_texts.proofs.unfolding_laws.ListLaws.{every_at, every_both, every_means, every_one, if_found, each_get}
 use Rattle.declaration_laws.specs.Given.{IsPart, GivenIs, AllGiven}
+use Rattle.declaration_laws.proofs.Alive.{structure_rules}
 use Rattle.declaration_laws.proofs.Fields.{field_only, field_told}
 use Rattle.declaration_laws.proofs.Initials.{Knows, initial_is}
 use Rattle.declaration_laws.proofs.Items.{WrittenFine, WrittenFormed, sections_formed, sections_fine, class_fine}
 use Rattle.declaration_laws.proofs.Members.{member_only, member_told}
 use Rattle.declaration_laws.proofs.Parts.{FieldOf, Says, groups_say, kept_says, parts_say}
-use Rattle.declaration_laws.proofs.Places.{PlacedAt, all_at, of_sorts, EntryFine, entries_fine}
+use Rattle.declaration_laws.proofs.Places.{PlacedAt, all_at, of_sorts}
 use Rattle.declaration_laws.proofs.Scopes.{Sound, scope_fits, scope_types}
 use Rattle.declaration_laws.proofs.Steps.{entry_values, unit_sound, class_sound, written_sound}
 
@@ -165,8 +166,7 @@ module _ (most : ℕ) (decls : List (Decl ℕ)) (p : Checked) (fine : IsFormed m
 
   structure_fine : (n : ℕ) (t : TypeDecl ℕ) (gs : List (FieldGroup ℕ)) → slice_get (entries_in decls) n ≡ Some t → t.body ≡ body.Structure gs → Every FieldFine gs
   structure_fine n t gs e q =
-      let f = every_at (EntryFine decls good) (entries_in decls) n t (entries_fine decls good) e in
-      let rules = none_of_each (group_faults decls) gs (sym (ap (type_body_faults decls t.name.text) q) ∙ f.body) in
+      let rules = structure_rules decls good n t gs e q in
       let told_groups = (parts_are_told decls all_told).fields n t gs e q in
       let both_parts = every_both FormedGroup (λ (g : FieldGroup ℕ). is_some (type_written unit g.kind) ≡ true) (λ (g : FieldGroup ℕ). FormedGroup g × (is_some (type_written unit g.kind) ≡ true)) (λ g a b. (a, b)) gs (structure_formed t gs (entry_formed n t e) q) told_groups in
       every_both (λ (g : FieldGroup ℕ). group_faults decls g ≡ []) (λ (g : FieldGroup ℕ). FormedGroup g × (is_some (type_written unit g.kind) ≡ true)) FieldFine (λ g a b. (a, b.0, b.1)) gs rules both_parts

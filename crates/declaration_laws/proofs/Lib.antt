@@ -13,3 +13,8 @@ pub mod Fields
 pub mod Members
 pub mod Initials
 pub mod Knowing
+pub mod Regions
+pub mod Met
+pub mod NoInstances
+pub mod Locals
+pub mod Routines

@@ -87,6 +87,29 @@ module _ (decls : List (Decl ℕ)) (p : Checked) (checked : IsChecked decls p) (
   abbrev Seen : Program
   Seen = program_of p
 
+  -- ---- structures
+
+  abbrev pub FieldsSay : Type 0
+  FieldsSay = (n : ℕ) (t : TypeDecl ℕ) (gs : List (FieldGroup ℕ)) (hs : List (FieldGroup Note)) → slice_get (entries_in decls) n ≡ Some t → t.body ≡ body.Structure gs → Each (TypedGroup (unit_scope decls (unit_names decls))) gs hs → Every R (groups_in hs)
+
+  module _ (fields : FieldsSay) where
+    of_body : (n : ℕ) (t : TypeDecl ℕ) (a : TypeBody ℕ) (b : TypeBody Note) (vs : List Variable) → slice_get (entries_in decls) n ≡ Some t → t.body ≡ a → TypedTypeBody decls a b → fields_of (type_body b) ≡ Some vs → Every R vs
+    of_body n t (body.Alias x) (body.Alias y) vs e q h f = absurd (none≢some f)
+    of_body n t (body.Enumeration ns) (body.Enumeration ms) vs e q h f = absurd (none≢some f)
+    of_body n t (body.Structure gs) (body.Structure hs) vs e q h f = subst (Every R) (some-same f) (fields n t gs hs e q h)
+    of_body n t (body.Alias x) (body.Enumeration ms) vs e q h f = absurd h
+    of_body n t (body.Alias x) (body.Structure hs) vs e q h f = absurd h
+    of_body n t (body.Enumeration ns) (body.Alias y) vs e q h f = absurd h
+    of_body n t (body.Enumeration ns) (body.Structure hs) vs e q h f = absurd h
+    of_body n t (body.Structure gs) (body.Alias y) vs e q h f = absurd h
+    of_body n t (body.Structure gs) (body.Enumeration ms) vs e q h f = absurd h
+
+    pub structure_says : (n : ℕ) (x : TypeEntry) (vs : List Variable) → slice_get Seen.types n ≡ Some x → fields_of x.body ≡ Some vs → Every R vs
+    structure_says n x vs e f =
+        let y = mapped_some type_entry (slice_get p.types n) x (sym (slice_get-map type_entry p.types n) ∙ e) in
+        let t = if_found (TypedEntry decls) (slice_get (entries_in decls) n) (slice_get p.types n) y.0 y.1 (each_get (TypedEntry decls) (entries_in decls) p.types n checked.types) in
+        of_body n t.0 (t.0).body (y.0).body vs t.1 refl (t.2).body (ap (λ (z : TypeEntry). fields_of z.body) y.2 ∙ f)
+
   -- ---- classes and programs
 
   abbrev OwnSays : Class → Type 0
@@ -101,7 +124,7 @@ module _ (decls : List (Decl ℕ)) (p : Checked) (checked : IsChecked decls p) (
   programs_own n (d ∷ ds) h = (h.0, programs_own (suc n) ds h.1)
 
   pub record Says : Type 0 where
-    pub fields : (n : ℕ) (t : TypeDecl ℕ) (gs : List (FieldGroup ℕ)) (hs : List (FieldGroup Note)) → slice_get (entries_in decls) n ≡ Some t → t.body ≡ body.Structure gs → Each (TypedGroup (unit_scope decls (unit_names decls))) gs hs → Every R (groups_in hs)
+    pub fields : FieldsSay
     pub classes : (c : ℕ) (d : ClassDecl ℕ) (y : ClassDecl Note) → slice_get (classes_in decls) c ≡ Some d → TypedClass decls c d y → Every R (those is_kept (variables_in (sections_in y.members)))
     pub programs : (k : ℕ) (d : ProgramDecl ℕ) (y : ProgramDecl Note) → slice_get (programs_in decls) k ≡ Some d → TypedProgram decls d y → Every R (those is_kept (variables_in y.sections))
 
@@ -123,6 +146,10 @@ module _ (decls : List (Decl ℕ)) (p : Checked) (checked : IsChecked decls p) (
         (classes_own p.classes p.interfaces 0 p.classes (every_from (λ (d : ClassDecl Note). Every R (those is_kept (variables_in (sections_in d.members)))) p.classes class_own))
         (programs_own (length p.classes) p.programs (every_from (λ (d : ProgramDecl Note). Every R (those is_kept (variables_in d.sections))) p.programs program_own))
 
+    none_say : (c : ℕ) → class_at Seen c ≡ None → Every R (class_variables Seen c)
+    unfolding class_variables
+    none_say c e = subst (λ q. Every R (own_variables Seen (reverse (chain_of q)))) (sym e) tt
+
     own_says : (c : ℕ) → Every R (own_of (class_at Seen c))
     own_says c = by (class_at Seen c) refl
       where
@@ -132,32 +159,14 @@ module _ (decls : List (Decl ℕ)) (p : Checked) (checked : IsChecked decls p) (
 
     -- each variable of an instance
     pub variables_say : (c : ℕ) → Every R (class_variables Seen c)
-    unfolding class_variables
     variables_say c = by (class_at Seen c) refl
       where
-        by : (o : Option Class) → class_at Seen c ≡ o → Every R (own_variables Seen (reverse (chain_of (class_at Seen c))))
-        by None e = subst (λ q. Every R (own_variables Seen (reverse (chain_of q)))) (sym e) tt
+        by : (o : Option Class) → class_at Seen c ≡ o → Every R (class_variables Seen c)
+        by None e = none_say c e
         by (Some k) e = variables_every p R c k e (every_one (λ b. Every R (own_of (class_at Seen b))) own_says k.chain)
-
-    of_body : (n : ℕ) (t : TypeDecl ℕ) (a : TypeBody ℕ) (b : TypeBody Note) (vs : List Variable) → slice_get (entries_in decls) n ≡ Some t → t.body ≡ a → TypedTypeBody decls a b → fields_of (type_body b) ≡ Some vs → Every R vs
-    of_body n t (body.Alias x) (body.Alias y) vs e q h f = absurd (none≢some f)
-    of_body n t (body.Enumeration ns) (body.Enumeration ms) vs e q h f = absurd (none≢some f)
-    of_body n t (body.Structure gs) (body.Structure hs) vs e q h f = subst (Every R) (some-same f) (says.fields n t gs hs e q h)
-    of_body n t (body.Alias x) (body.Enumeration ms) vs e q h f = absurd h
-    of_body n t (body.Alias x) (body.Structure hs) vs e q h f = absurd h
-    of_body n t (body.Enumeration ns) (body.Alias y) vs e q h f = absurd h
-    of_body n t (body.Enumeration ns) (body.Structure hs) vs e q h f = absurd h
-    of_body n t (body.Structure gs) (body.Alias y) vs e q h f = absurd h
-    of_body n t (body.Structure gs) (body.Enumeration ms) vs e q h f = absurd h
-
-    structure_says : (n : ℕ) (x : TypeEntry) (vs : List Variable) → slice_get Seen.types n ≡ Some x → fields_of x.body ≡ Some vs → Every R vs
-    structure_says n x vs e f =
-        let y = mapped_some type_entry (slice_get p.types n) x (sym (slice_get-map type_entry p.types n) ∙ e) in
-        let t = if_found (TypedEntry decls) (slice_get (entries_in decls) n) (slice_get p.types n) y.0 y.1 (each_get (TypedEntry decls) (entries_in decls) p.types n checked.types) in
-        of_body n t.0 (t.0).body (y.0).body vs t.1 refl (t.2).body (ap (λ (z : TypeEntry). fields_of z.body) y.2 ∙ f)
 
     -- every part of a type
     pub parts_say : (t : StType) (v : Variable) → IsPart Seen t v → R v
-    parts_say (type.Structure n) v h = every_has R h.1 v (structure_says n h.0 h.1 h.2 h.3) h.4
+    parts_say (type.Structure n) v h = every_has R h.1 v (structure_says says.fields n h.0 h.1 h.2 h.3) h.4
     parts_say (type.Instance c) v h = every_has R (class_variables Seen c) v (variables_say c) h
     parts_say _ v h = absurd h

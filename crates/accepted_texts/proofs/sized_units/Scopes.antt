@@ -65,7 +65,7 @@ module _ (s : Scope) (c : Option ℕ) (m : Bool) (ls : List DeclaredVariable) wh
   composite_same (StType-F.Reference k) = refl
   composite_same (StType-F.Interface k) = refl
 
-  depth_same : (n : ℕ) (t : StType) → has_depth elsewhere n t ≡ has_depth s n t
+  pub depth_same : (n : ℕ) (t : StType) → has_depth elsewhere n t ≡ has_depth s n t
   depth_same zero t = composite_same (out-StType t)
   depth_same (suc n) t =
       ap (λ b. b && list_any (has_depth elsewhere n) (contents elsewhere (out-StType t))) (composite_same (out-StType t))
