@@ -18,3 +18,5 @@ pub mod Met
 pub mod NoInstances
 pub mod Locals
 pub mod Routines
+pub mod Meanings
+pub mod Whole
