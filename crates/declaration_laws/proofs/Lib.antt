@@ -20,3 +20,4 @@ pub mod Locals
 pub mod Routines
 pub mod Meanings
 pub mod Whole
+pub mod Numbered

@@ -97,7 +97,7 @@ flat_has f (j ∷ ks) k x h i = elim (either (nat_eq k j) (is_among k ks) h) [
   | inr m ↦ has_back (f j) (flat_map f ks) x (flat_has f ks k x m i)
 ]
 
-mapped_has : {X Y : Type 0} (f : X → Y) (xs : List X) (x : X) → Has xs x → Has (map f xs) (f x)
+pub mapped_has : {X Y : Type 0} (f : X → Y) (xs : List X) (x : X) → Has xs x → Has (map f xs) (f x)
 mapped_has f [] x h = absurd h
 mapped_has f (y ∷ xs) x (inl e) = inl (ap f e)
 mapped_has f (y ∷ xs) x (inr h) = inr (mapped_has f xs x h)
@@ -149,7 +149,7 @@ among_self : (ks : List ℕ) → Every (λ k. is_among k ks ≡ true) ks
 among_self [] = tt
 among_self (k ∷ ks) = (or-first (nat_eq k k) (is_among k ks) (eq-eqb k k refl), every_means (λ j. is_among j ks ≡ true) (λ j. is_among j (k ∷ ks) ≡ true) (λ j h. or-second (nat_eq j k) (is_among j ks) h) ks (among_self ks))
 
-all_has : {X : Type 0} (xs : List X) → Every (Has xs) xs
+pub all_has : {X : Type 0} (xs : List X) → Every (Has xs) xs
 all_has [] = tt
 all_has (x ∷ xs) = (inl refl, every_means (Has xs) (Has (x ∷ xs)) (λ y h. inr h) xs (all_has xs))
 

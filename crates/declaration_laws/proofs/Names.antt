@@ -28,7 +28,7 @@ equal a b h = (bytes_eq-Decides a b).0 h
 pub same_self : (a b : List ℕ) → a ≡ b → same a b ≡ true
 same_self a b e = (bytes_eq-Decides a b).1 e
 
-not_turned : (a b : List ℕ) → same a b ≡ false → same b a ≡ false
+pub not_turned : (a b : List ℕ) → same a b ≡ false → same b a ≡ false
 not_turned a b h = elim (cases (same b a)) [
   | inl e ↦ absurd (true≢false (sym (same_turned b a e) ∙ h))
   | inr e ↦ e

@@ -3,6 +3,7 @@ use Rattle.std.proofs.Common.{◌≡◌, ℕ, Bool, true, false, List, [], ◌�
 use Rattle.std.specs.Prelude.{flat_map, option_map, slice_get}
 use Rattle.std.proofs.lemmas.Option.{slice_get-map}
 use Rattle.st_tree.specs.declared.configuration.Resource.{Resource}
+use Rattle.st_tree.specs.declared.declaration.ClassDecl.{ClassDecl}
 use Rattle.st_tree.specs.declared.declaration.FunctionDecl.{FunctionDecl}
 use Rattle.st_tree.specs.declared.declaration.InterfaceDecl.{InterfaceDecl}
 use Rattle.st_tree.specs.declared.declaration.Item.{Item}
@@ -12,6 +13,7 @@ use Rattle.st_tree.specs.declared.declaration.TypeDecl.{TypeDecl}
 use Rattle.st_tree.specs.declared.unit.Decl.{Decl}
 use Rattle.st_tree.specs.declared.unit.Decl.TheVariants as declaration
 use Rattle.st_tree.specs.Declarations.{is_global}
+use Rattle.st_rules.specs.Classes.{classes_in}
 use Rattle.st_rules.specs.Interfaces.{interfaces_in}
 use Rattle.st_rules.proofs.Booleans.{none≢some, some-same}
 use Rattle.st_unit_rules.specs.declared_names.Declarations.{Declaration, an_entry, a_global, an_interface, a_class, a_function, a_program, a_configuration, Global, Placed, declarations_of, declarations, placed, globals_of_item, globals_of_section, resource_globals, configuration_globals, entries_in, functions_in, programs_in}
@@ -32,10 +34,11 @@ pub record OfSorts (P : Declaration → Type 0) (ds : List (Decl ℕ)) : Type 0 
   pub functions : Every (λ (f : FunctionDecl ℕ). P (a_function f)) (functions_in ds)
   pub programs : Every (λ (d : ProgramDecl ℕ). P (a_program d)) (programs_in ds)
   pub interfaces : Every (λ (d : InterfaceDecl ℕ). P (an_interface d)) (interfaces_in ds)
+  pub classes : Every (λ (d : ClassDecl ℕ). P (a_class d)) (classes_in ds)
 
 module _ (P : Declaration → Type 0) where
-  sorts_from : (ds : List (Decl ℕ)) → Every P (flat_map declarations_of ds) → OfSorts P ds
-  sorts_from [] h = record { entries = tt; functions = tt; programs = tt; interfaces = tt }
+  pub sorts_from : (ds : List (Decl ℕ)) → Every P (flat_map declarations_of ds) → OfSorts P ds
+  sorts_from [] h = record { entries = tt; functions = tt; programs = tt; interfaces = tt; classes = tt }
   sorts_from (declaration.Types l ts ∷ ds) h =
       let r = sorts_from ds (every_back P (map an_entry ts) (flat_map declarations_of ds) h) in
       record {
@@ -43,17 +46,18 @@ module _ (P : Declaration → Type 0) where
         functions = r.functions;
         programs = r.programs;
         interfaces = r.interfaces;
+        classes = r.classes;
       }
   sorts_from (declaration.Globals s ∷ ds) h =
       let r = sorts_from ds (every_back P (globals_of_section s) (flat_map declarations_of ds) h) in
-      record { entries = r.entries; functions = r.functions; programs = r.programs; interfaces = r.interfaces }
-  sorts_from (declaration.Interface d ∷ ds) h = let r = sorts_from ds h.1 in record { entries = r.entries; functions = r.functions; programs = r.programs; interfaces = (h.0, r.interfaces) }
-  sorts_from (declaration.Class d ∷ ds) h = let r = sorts_from ds h.1 in record { entries = r.entries; functions = r.functions; programs = r.programs; interfaces = r.interfaces }
-  sorts_from (declaration.Function d ∷ ds) h = let r = sorts_from ds h.1 in record { entries = r.entries; functions = (h.0, r.functions); programs = r.programs; interfaces = r.interfaces }
-  sorts_from (declaration.Program d ∷ ds) h = let r = sorts_from ds h.1 in record { entries = r.entries; functions = r.functions; programs = (h.0, r.programs); interfaces = r.interfaces }
+      record { entries = r.entries; functions = r.functions; programs = r.programs; interfaces = r.interfaces; classes = r.classes }
+  sorts_from (declaration.Interface d ∷ ds) h = let r = sorts_from ds h.1 in record { entries = r.entries; functions = r.functions; programs = r.programs; interfaces = (h.0, r.interfaces); classes = r.classes }
+  sorts_from (declaration.Class d ∷ ds) h = let r = sorts_from ds h.1 in record { entries = r.entries; functions = r.functions; programs = r.programs; interfaces = r.interfaces; classes = (h.0, r.classes) }
+  sorts_from (declaration.Function d ∷ ds) h = let r = sorts_from ds h.1 in record { entries = r.entries; functions = (h.0, r.functions); programs = r.programs; interfaces = r.interfaces; classes = r.classes }
+  sorts_from (declaration.Program d ∷ ds) h = let r = sorts_from ds h.1 in record { entries = r.entries; functions = r.functions; programs = (h.0, r.programs); interfaces = r.interfaces; classes = r.classes }
   sorts_from (declaration.Configuration c ∷ ds) h =
       let r = sorts_from ds (every_back P (flat_map globals_of_section (configuration_globals c)) (flat_map declarations_of ds) h.1) in
-      record { entries = r.entries; functions = r.functions; programs = r.programs; interfaces = r.interfaces }
+      record { entries = r.entries; functions = r.functions; programs = r.programs; interfaces = r.interfaces; classes = r.classes }
 
   pub of_sorts : (decls : List (Decl ℕ)) → Every P (declarations decls) → OfSorts P decls
   unfolding declarations
