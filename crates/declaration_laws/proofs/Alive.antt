@@ -52,7 +52,7 @@ use Rattle.declaration_laws.proofs.Living.{held-Instance, Lives, TypeLives, inst
 use Rattle.declaration_laws.proofs.Parts.{FieldOf, Says, groups_say, kept_says, parts_say}
 use Rattle.declaration_laws.proofs.Places.{IsGlobalSort, PlacedAt, all_at, rules_at, EntryFine, entries_fine, globals_are}
 
-no_input : (h : Home) → may_hold_instances h sort.Input ≡ false
+pub no_input : (h : Home) → may_hold_instances h sort.Input ≡ false
 no_input of_class = refl
 no_input of_block = refl
 no_input of_program = refl
@@ -60,7 +60,7 @@ no_input of_routine = refl
 no_input of_prototype = refl
 no_input of_globals = refl
 
-no_output : (h : Home) → may_hold_instances h sort.Output ≡ false
+pub no_output : (h : Home) → may_hold_instances h sort.Output ≡ false
 no_output of_class = refl
 no_output of_block = refl
 no_output of_program = refl

@@ -26,7 +26,7 @@ use Rattle.st_rules.proofs.Booleans.{none≢some}
 use Rattle.st_unit_rules.specs.Checked.{IsChecked}
 use Rattle.st_unit_rules.specs.declared_names.Declarations.{Region, Global, item_line}
 use Rattle.st_unit_rules.specs.declared_names.UnitNames.{unit_names, unit_scope, class_scope, program_scope}
-use Rattle.st_unit_rules.specs.declared_names.Variables.{Written, declares_constants, item_written, section_written, sections_written, sections_in}
+use Rattle.st_unit_rules.specs.declared_names.Variables.{Written, declares_constants, is_body_written, item_written, section_written, sections_written, sections_in}
 use Rattle.st_unit_rules.specs.declared_names.WrittenTypes.{type_written, type_faults}
 use Rattle.st_unit_rules.specs.DeclarationRules.{signatures, class_home, class_declaration_faults, class_limits, method_faults, program_faults, program_limits, global_faults, item_too_deep}
 use Rattle.st_unit_rules.specs.NameRules.{member_name_faults}
@@ -119,6 +119,7 @@ module _ (decls : List (Decl ℕ)) (good : BreaksNothing decls) where
     pub class : class_faults same_worth (classes_in decls) (signatures decls) c ≡ []
     pub interfaces : concrete_class_faults (classes_in decls) (interfaces_in decls) same_worth (signatures decls) c ≡ []
     pub sections : sections_faults (class_scope decls (unit_names decls) c) (class_home decls d.sort) (sections_in d.members) ≡ []
+    pub depths : flat_map (λ (w : Written). item_too_deep decls (class_scope decls (unit_names decls) c) w.item) (filter is_body_written (sections_written (sections_in d.members))) ≡ []
 
   pub class_fine : (c : ℕ) (d : ClassDecl ℕ) → slice_get (classes_in decls) c ≡ Some d → ClassFine c d
   class_fine c d e =
@@ -126,6 +127,7 @@ module _ (decls : List (Decl ℕ)) (good : BreaksNothing decls) where
       let s = class_scope decls (unit_names decls) c in
       let bodies = none_in _ _ r.1 in
       let limits = none_in _ (class_limits decls s r.0 c d) bodies.0 in
+      let depths = none_in _ (flat_map (λ (w : Written). item_too_deep decls s w.item) (filter is_body_written (sections_written (sections_in d.members)))) limits.1 in
       let methods = none_in _ (flat_map (method_faults decls c) (methods_in d.members)) limits.0 in
       let cycles = none_in _ (inner_cycles (sections_written (sections_in d.members))) methods.0 in
       let sections = none_in _ (sections_faults s (class_home decls d.sort) (sections_in d.members)) cycles.0 in
@@ -134,7 +136,7 @@ module _ (decls : List (Decl ℕ)) (good : BreaksNothing decls) where
       let implemented = none_in _ _ class.0 in
       let base = none_in _ _ implemented.0 in
       let names = none_in _ (member_name_faults (classes_in decls) c d) base.0 in
-      record { names = names.1; class = class.1; interfaces = concrete.1; sections = sections.1 }
+      record { names = names.1; class = class.1; interfaces = concrete.1; sections = sections.1; depths = depths.1 }
 
   pub program_fine : (d : ProgramDecl ℕ) → program_faults decls d ≡ [] → Every (WrittenFine (program_scope decls (unit_names decls) d) of_program) (sections_written d.sections)
   program_fine d h =

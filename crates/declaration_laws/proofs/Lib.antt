@@ -14,10 +14,12 @@ pub mod Members
 pub mod Initials
 pub mod Knowing
 pub mod Regions
-pub mod Met
+pub mod Implemented
 pub mod NoInstances
 pub mod Locals
 pub mod Routines
 pub mod Meanings
 pub mod Whole
 pub mod Numbered
+pub mod Bodies
+pub mod BodyParameters

@@ -69,12 +69,12 @@ temp_closed of_routine = refl
 temp_closed of_prototype = refl
 temp_closed of_globals = refl
 
-not_both : (a b : Bool) → (not a && b) ≡ false → a ≡ false → b ≡ false
+pub not_both : (a b : Bool) → (not a && b) ≡ false → a ≡ false → b ≡ false
 not_both false b h e = h
 not_both true b h e = absurd (true≢false e)
 
 -- neither a constant nor an external
-variable_sort : (w : Written) → is_variable w ≡ true → is_external w.sort ≡ false
+pub variable_sort : (w : Written) → is_variable w ≡ true → is_external w.sort ≡ false
 variable_sort w h = by (is_external w.sort) (both (not w.constant) (not (is_external w.sort)) h).1
   where
     by : (b : Bool) → not b ≡ true → b ≡ false

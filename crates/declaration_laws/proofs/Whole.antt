@@ -1,34 +1,39 @@
 -- The declarations of the checked program of a good unit that is formed are as is promised.
-use Rattle.std.proofs.Common.{◌≡◌, ℕ, zero, suc, ◌+◌, List, [], ◌∷◌, map, Option, Some, None, refl, sym, ap, ◌∙◌, subst, inl, inr, arith}
+use Rattle.std.proofs.Common.{◌≡◌, ℕ, suc, ◌+◌, List, [], ◌∷◌, ◌++◌, map, reverse, length, Option, Some, None, refl, sym, ap, ◌∙◌, subst, inl, inr, arith}
 use Rattle.std.specs.Prelude.{option_map, slice_get, if◌then◌else◌, Bool, true, false}
 use Rattle.std.proofs.lemmas.Option.{slice_get-map}
 use Rattle.plc_text.specs.Words.{same}
 use Rattle.st_tree.specs.declared.declaration.ClassDecl.{ClassDecl}
 use Rattle.st_tree.specs.declared.declaration.FunctionDecl.{FunctionDecl}
 use Rattle.st_tree.specs.declared.declaration.Method.{Method}
+use Rattle.st_tree.specs.declared.declaration.ProgramDecl.{ProgramDecl}
 use Rattle.st_tree.specs.declared.program.Note.{Note}
 use Rattle.st_tree.specs.declared.program.Program.{Program as Checked}
 use Rattle.st_tree.specs.declared.unit.Decl.{Decl}
 use Rattle.st_tree.specs.Statement.{statements_of}
-use Rattle.st_rules.specs.Classes.{classes_in, methods_in}
+use Rattle.st_rules.specs.Classes.{classes_in, methods_in, chain}
 use Rattle.st_rules.proofs.Booleans.{none≢some, some-same}
-use Rattle.st_unit_rules.specs.Checked.{TypedClass, TypedMethod, TypedFunction, IsChecked}
-use Rattle.st_unit_rules.specs.declared_names.Declarations.{a_function, functions_in}
+use Rattle.st_unit_rules.specs.Checked.{TypedClass, TypedMethod, TypedFunction, TypedProgram, IsChecked}
+use Rattle.st_unit_rules.specs.declared_names.Declarations.{a_function, functions_in, programs_in}
 use Rattle.st_unit_rules.specs.RefusalLaws.{IsGood}
-use Rattle.st_values.specs.Program.{Routine, Class, Program, class_at, named, method_of as method_found, own_method}
-use Rattle.st_values.specs.View.{method_of, function_of, class_of, variables_in, program_of}
+use Rattle.st_values.specs.Program.{Routine, Class, Program, class_at, named, method_of as method_found, own_method, body_in, body_of}
+use Rattle.st_values.specs.View.{method_of, function_of, class_of, classes_from, programs_from, body_routine, those, is_of_body, variables_in, declared_along, program_of}
 use Rattle.st_values.proofs.ShapeLaws.{mapped_some}
 use Rattle.st_meaning.specs.st_frame.Promise.Declarations.{LocalIs}
 use Rattle.resolution_order.specs.told_laws.ToldLaws.{Every}
 use Rattle.accepted_texts.specs.formed_units.Formed.{IsFormed}
-use Rattle.accepted_texts.proofs.unfolding_laws.ListLaws.{every_at, if_found, each_get, from_get}
+use Rattle.accepted_texts.proofs.unfolding_laws.ListLaws.{every_append, every_at, if_found, each_get, from_get}
 use Rattle.class_laws.proofs.Above.{ClassAt, at_number}
 use Rattle.class_laws.proofs.Same.{methods_each}
 use Rattle.declaration_laws.specs.DeclarationLaws.{DeclaresRight, AreRight, DeclarationLaws}
 use Rattle.declaration_laws.proofs.Alive.{living}
+use Rattle.declaration_laws.proofs.Bodies.{block_locals, program_bodies}
+use Rattle.declaration_laws.proofs.BodyParameters.{block_parameters, program_parameters}
 use Rattle.declaration_laws.proofs.Items.{no_cycle}
+use Rattle.declaration_laws.proofs.Knowing.{programs_at}
+use Rattle.declaration_laws.proofs.Numbered.{numbered, conforms_itself}
 use Rattle.declaration_laws.proofs.Meanings.{scope_constants}
-use Rattle.declaration_laws.proofs.Met.{met}
+use Rattle.declaration_laws.proofs.Implemented.{met}
 use Rattle.declaration_laws.proofs.Places.{PlacedAt, all_at, of_sorts}
 use Rattle.declaration_laws.proofs.Regions.{each_every, regions_fit}
 use Rattle.declaration_laws.proofs.Routines.{method_locals, function_locals, parameters_are}
@@ -79,11 +84,59 @@ module _ (most : ℕ) (decls : List (Decl ℕ)) (p : Checked) (fine : IsFormed m
       let h = function_locals most decls p fine good.nothing checked x.0 f place x.2 in
       subst (DeclaresRight Seen) y.2 (each_every (LocalIs Seen) (function_of f).locals h, parameters_are Seen None f.name.text f.line f.result (variables_in f.sections) (statements_of f.body) h)
 
+  -- ---- bodies
+
+  abbrev BodyRight : Class → Type 0
+  BodyRight k = DeclaresRight Seen k.body
+
+  classes_right : (n : ℕ) (ds : List (ClassDecl Note)) → ((i : ℕ) (d : ClassDecl Note) → slice_get ds i ≡ Some d → DeclaresRight Seen (class_of p.classes p.interfaces (n + i) d).body) → Every BodyRight (classes_from p.classes p.interfaces n ds)
+  classes_right n [] f = tt
+  classes_right n (d ∷ ds) f =
+      let z : n + 0 ≡ n = omega arith in
+      (subst (λ m. DeclaresRight Seen (class_of p.classes p.interfaces m d).body) z (f 0 d refl), classes_right (suc n) ds (λ i x e. let w : n + suc i ≡ suc n + i = omega arith in subst (λ m. DeclaresRight Seen (class_of p.classes p.interfaces m x).body) w (f (suc i) x e)))
+
+  abbrev ProgramRight : ℕ → ProgramDecl Note → Type 0
+  ProgramRight c d = DeclaresRight Seen (body_routine c d.name.text d.line (variables_in d.sections) (statements_of d.body))
+
+  programs_right : (n : ℕ) (ds : List (ProgramDecl Note)) → ((i : ℕ) (d : ProgramDecl Note) → slice_get ds i ≡ Some d → ProgramRight (n + i) d) → Every BodyRight (programs_from n ds)
+  programs_right n [] f = tt
+  programs_right n (d ∷ ds) f =
+      let z : n + 0 ≡ n = omega arith in
+      (subst (λ m. ProgramRight m d) z (f 0 d refl), programs_right (suc n) ds (λ i x e. let w : n + suc i ≡ suc n + i = omega arith in subst (λ m. ProgramRight m x) w (f (suc i) x e)))
+
+  block_right : (i : ℕ) (d : ClassDecl Note) → slice_get p.classes i ≡ Some d → DeclaresRight Seen (class_of p.classes p.interfaces (0 + i) d).body
+  block_right i d e =
+      let z : i ≡ 0 + i = omega arith in
+      let vs = those is_of_body (declared_along p.classes (reverse (chain p.classes i))) in
+      subst (λ m. DeclaresRight Seen (class_of p.classes p.interfaces m d).body) z
+      (each_every (LocalIs Seen) vs (block_locals most decls p fine good.nothing checked (reverse (chain p.classes i))), block_parameters most decls p fine good.nothing checked i d e)
+
+  program_right : (i : ℕ) (d : ProgramDecl Note) → slice_get p.programs i ≡ Some d → ProgramRight (length p.classes + i) d
+  program_right i d e =
+      let x = if_found (TypedProgram decls) (slice_get (programs_in decls) i) (slice_get p.programs i) d e (each_get (TypedProgram decls) (programs_in decls) p.programs i checked.programs) in
+      let place = programs_at most decls p fine good.nothing checked i x.0 x.1 in
+      (each_every (LocalIs Seen) (those is_of_body (variables_in d.sections)) (program_bodies most decls p fine good.nothing checked x.0 d place x.2), program_parameters most decls p fine good.nothing checked i x.0 d e place x.2)
+
+  all_bodies : Every BodyRight Seen.classes
+  all_bodies =
+      every_append BodyRight (classes_from p.classes p.interfaces 0 p.classes) (programs_from (length p.classes) p.programs)
+      (classes_right 0 p.classes block_right) (programs_right (length p.classes) p.programs program_right)
+
+  bodies_right : (c : ℕ) (r : Routine) → body_of Seen c ≡ Some r → DeclaresRight Seen r
+  bodies_right c r e = by (class_at Seen c) refl e
+    where
+      by : (o : Option Class) → class_at Seen c ≡ o → body_in o ≡ Some r → DeclaresRight Seen r
+      by None q h = absurd (none≢some h)
+      by (Some k) q h = subst (DeclaresRight Seen) (some-same h) (every_at BodyRight Seen.classes c k all_bodies q)
+
   right : AreRight decls p
   right = record {
     regions = regions_fit most decls p fine good checked;
     methods = methods_right;
     functions = functions_right;
+    bodies = bodies_right;
+    numbered = numbered decls good.nothing p checked;
+    itself = conforms_itself p;
     constants = λ s o ss w called name c v e k. scope_constants most decls p fine good.nothing checked s o ss w called name c v e k;
     no_cycle = no_cycle decls good.nothing p checked;
     living = living most decls p fine good.nothing checked;
