@@ -6,6 +6,7 @@ use Rattle.plc_num.specs.Arithmetic.{difference}
 use Rattle.plc_num.specs.Bits.{complement}
 use Rattle.plc_num.specs.Conversion.{converted}
 use Rattle.st_types.specs.declared.elem.Elem.{Elem}
+use Rattle.st_types.specs.declared.elem.Elem.TheVariants as elem
 use Rattle.st_types.specs.declared.st_type.StType.{StType}
 use Rattle.st_types.specs.declared.st_type.StType.TheVariants as type
 use Rattle.st_tree.specs.declared.expression.Operator.{Operator}
@@ -17,9 +18,9 @@ use Rattle.st_tree.specs.Duration.{milliseconds}
 use Rattle.st_tree.specs.Expression.{Expression, Int, Typed, Time, True, False, Null, Place, Call, Enumerator, Ref, Now, Paren, Not, Negate, Chain, Field, Selectors, no_selectors, selector_then, Arguments, Tails, no_tails, tail_then}
 use Rattle.st_tree.specs.Number.{number_of}
 use Rattle.st_rules.specs.declared.asked.Asked.{Asked}
-use Rattle.st_rules.specs.declared.asked.Asked.TheVariants.{Anything, Wanted}
+use Rattle.st_rules.specs.declared.asked.Asked.TheVariants.{Anything, Wanted, Untold}
 use Rattle.st_rules.specs.declared.names.DeclaredVariable.{DeclaredVariable}
-use Rattle.st_rules.specs.Kinds.{is_arithmetic, operation_type, unary_type, takes_not, takes_minus}
+use Rattle.st_rules.specs.Kinds.{boolean, time, is_arithmetic, operation_type, unary_type, takes_not, takes_minus}
 use Rattle.st_rules.specs.Literals.{int_type, negative_type, number_asked, asked_of, typed_literal_type, literal_number, null_type}
 use Rattle.st_rules.specs.Scope.{Scope, Meant, a_variable, a_function, an_enumerator, Qualifier, values_of, of_untold, no_qualifier, sought, type_qualifier, dot_qualifier, value_of}
 use Rattle.st_rules.specs.Scope as scope
@@ -33,7 +34,7 @@ use Rattle.st_meaning.proofs.st_frame.OfTypes.{wraps_fit, bit_fits, converted_fi
 use Rattle.accepted_texts.proofs.told_units.TypeLaws.{HasItsType, ValuesHaveTypes, AsksForTold, none-of, asks-number, asks-of, asks-front, asks-operand, asks-anything, conversion-called, passes}
 use Rattle.place_laws.specs.Agrees.{ConstantIs}
 use Rattle.place_laws.proofs.Operators.{operation}
-use Rattle.place_laws.proofs.Literals.{int_is, negative_is, typed_is, time_is, null_held}
+use Rattle.place_laws.proofs.Literals.{AsksForTold as AsksLiteral, int_is, negative_is, typed_is, time_is, null_held}
 use Rattle.declaration_laws.specs.Given.{NumberOf}
 use Rattle.declaration_laws.proofs.Numbers.{OutcomeOf, Right, number_of_type, literal_fits, literal_right, typed_right, lasting, held, unary, operated_of, assigned_number}
 
@@ -48,6 +49,11 @@ chosen false t u h k = absurd (cc)
 split : (a b : Bool) → (a && b) ≡ true → (a ≡ true) × (b ≡ true)
 split true b h = (refl, h)
 split false b h = absurd (cc)
+
+asks_literal : (asked : Asked) → AsksForTold asked → AsksLiteral asked
+asks_literal Anything h = tt
+asks_literal (Wanted t) h = tt
+asks_literal Untold h = absurd h
 
 module _ (p : Program) where
   -- ---- what names mean
@@ -243,9 +249,9 @@ module _ (p : Program) where
         known : (e : Expression ℕ) → names_are_told s e ≡ true → no_constant_part s e ≡ [] → Known e
         known (Int l digits) h n = record { by = λ asked a f. literal_right p (int_type asked digits) _ (int_is l asked digits a f) }
         known (Typed l k literal) h n = record { by = λ asked a f. let q = typed_is l k literal f in typed_right p (typed_literal_type k literal) k (literal_number literal) q.0 (literal_fits k literal q.1) }
-        known (Time l text) h n = record { by = λ asked a f. record { kind = _; told = refl; value = lasting p (milliseconds text) (time_is l text f) } }
-        known (True l) h n = record { by = λ asked a f. record { kind = _; told = refl; value = bit_fits _ 1 (omega arith) } }
-        known (False l) h n = record { by = λ asked a f. record { kind = _; told = refl; value = bit_fits _ 0 (omega arith) } }
+        known (Time l text) h n = record { by = λ asked a f. record { kind = time; told = refl; value = lasting p (milliseconds text) (time_is l text f) } }
+        known (True l) h n = record { by = λ asked a f. record { kind = boolean; told = refl; value = bit_fits elem.Bool 1 (omega arith) } }
+        known (False l) h n = record { by = λ asked a f. record { kind = boolean; told = refl; value = bit_fits elem.Bool 0 (omega arith) } }
         known (Null l) h n = record { by = λ asked a f. record { kind = null_type asked; told = refl; value = held p (null_type asked) (pos 0) (null_held asked) } }
         known (Place l r ss) h n = record { by = λ asked a f. place_right fit w r ss h }
         known (Call l r ss xs) h n = let c = conversion-called s l r ss (no_constant_argument s xs) n in call_known l r ss xs c.0.0 c.0.1 c.1

@@ -71,6 +71,7 @@ module _ (interfaces : List (InterfaceDecl ℕ)) (name : List ℕ) where
     method : Prototype ℕ
     method_is : slice_get interface.methods id.method ≡ Some method
     named : method.name.text ≡ name
+    whole : id ≡ prototype_id id.interface id.method
 
   own_found : (i : ℕ) (id : PrototypeId) → own_prototype interfaces name i ≡ Some id → FoundFrom i id
   own_found i id h = by (slice_get interfaces i) refl h
@@ -79,7 +80,7 @@ module _ (interfaces : List (InterfaceDecl ℕ)) (name : List ℕ) where
       at d e None q f = absurd (none≢some f)
       at d e (Some k) q f =
           let m = placed (λ (m : Prototype ℕ). m.name.text) name d.methods k q in
-          subst (FoundFrom i) (some-same f) (record { above = extends_itself interfaces i; interface = d; there_is = e; method = m.0; method_is = m.1; named = equal (m.0).name.text name m.2 })
+          subst (FoundFrom i) (some-same f) (record { above = extends_itself interfaces i; interface = d; there_is = e; method = m.0; method_is = m.1; named = equal (m.0).name.text name m.2; whole = refl })
 
       by : (o : Option (InterfaceDecl ℕ)) → slice_get interfaces i ≡ o → option_map (prototype_id i) (option_and_then (λ (d : InterfaceDecl ℕ). first_place name (prototype_names d)) o) ≡ Some id → FoundFrom i id
       by None e f = absurd (none≢some f)
@@ -93,6 +94,7 @@ module _ (interfaces : List (InterfaceDecl ℕ)) (name : List ℕ) where
     method = h.method;
     method_is = h.method_is;
     named = h.named;
+    whole = h.whole;
   }
 
   within_found : (n i : ℕ) (id : PrototypeId) → prototype_within interfaces name n i ≡ Some id → FoundFrom i id
@@ -189,4 +191,4 @@ module _ (most : ℕ) (decls : List (Decl ℕ)) (p : Checked) (fine : IsFormed m
       let f = lookup_found interfaces name i id e in
       let conformed = conforms_further interfaces classes c i id.interface d.2 f.above in
       let all = all_met c d.0 d.1 (living most decls p fine good checked c h d.0 d.1) in
-      subst (λ n. Meets c n id) f.named (is_met_found c id.interface id.method f.interface f.method conformed f.there_is f.method_is (met_at c id.interface id.method f.interface f.method all conformed f.there_is f.method_is))
+      subst (λ n. Meets c n id) f.named (subst (λ z. Meets c f.method.name.text z) (sym f.whole) (is_met_found c id.interface id.method f.interface f.method conformed f.there_is f.method_is (met_at c id.interface id.method f.interface f.method all conformed f.there_is f.method_is)))

@@ -1,6 +1,6 @@
 -- In each scope of a good unit that is formed all is known that initial values rest on, and all that declarations give is of its type.
 use Rattle.std.proofs.Common.{◌≡◌, ◌≤◌, ℕ, Bool, true, false, List, [], ◌∷◌, ◌++◌, map, Option, Some, None, refl, sym, ap, ◌∙◌, subst}
-use Rattle.std.specs.Prelude.{option_map, slice_get, if◌then◌else◌}
+use Rattle.std.specs.Prelude.{filter, option_map, slice_get, if◌then◌else◌}
 use Rattle.std.specs.Option.{is_some}
 use Rattle.plc_text.specs.Words.{same}
 use Rattle.st_types.specs.declared.st_type.StType.{StType}
@@ -24,9 +24,10 @@ use Rattle.st_rules.specs.declared.asked.Asked.{Asked}
 use Rattle.st_rules.specs.declared.names.DeclaredField.{DeclaredField}
 use Rattle.st_rules.specs.declared.names.DeclaredType.{DeclaredType}
 use Rattle.st_rules.specs.declared.names.DeclaredVariable.{DeclaredVariable}
-use Rattle.st_rules.specs.Classes.{classes_in}
+use Rattle.st_rules.specs.Chains.{nearest, ◌or_else◌}
+use Rattle.st_rules.specs.Classes.{classes_in, chain}
 use Rattle.st_rules.specs.Expressions.{faults, told}
-use Rattle.st_rules.specs.Scope.{Scope, type_named, field_named, instance_variable}
+use Rattle.st_rules.specs.Scope.{Scope, type_named, variable_named, is_of_instance, field_list, field_from, field_named, instance_entry, instance_variable}
 use Rattle.st_rules.proofs.Booleans.{none≢some, some-same, false≢true}
 use Rattle.st_unit_rules.specs.Checked.{TypedEntry, TypedTypeBody, IsChecked}
 use Rattle.st_unit_rules.specs.Cycles.{Named, alone, before_dot, before_hash, named_in, inner_cycles}
@@ -52,6 +53,7 @@ use Rattle.accepted_texts.specs.told_units.Formed.{IsFormedWritten}
 use Rattle.accepted_texts.specs.told_units.Told.{AllTold, AllIsTold, WrittenIn, in_class, in_program}
 use Rattle.accepted_texts.proofs.formed_texts.Texts.{formed_text_laws}
 use Rattle.accepted_texts.proofs.formed_texts.Units.{over, FormedPart, all_parts, class_at as class_formed, part_at, sections_formed as members_formed}
+use Rattle.accepted_texts.proofs.sized_units.Scopes.{parts_same, variables_same}
 use Rattle.accepted_texts.proofs.sized_units.Told.{parts_are_told}
 use Rattle.accepted_texts.proofs.sized_units.Variables.{IsOf}
 use Rattle.accepted_texts.proofs.told_units.Law.{program-rules}
@@ -98,6 +100,20 @@ module _ (most : ℕ) (decls : List (Decl ℕ)) (p : Checked) (fine : IsFormed m
     abbrev pub inside : Scope
     inside = record unit { class = c; in_method = m; locals = ls }
 
+    -- names of parts mean the same in every scope
+    field_same : (n : ℕ) (name : List ℕ) → field_named inside n name ≡ field_named unit n name
+    field_same n name = ap (λ q. field_from 0 name (field_list q)) (parts_same unit c m ls n)
+
+    entries_same : (name : List ℕ) (ks : List ℕ) → nearest (instance_entry inside name) ks ≡ nearest (instance_entry unit name) ks
+    entries_same name [] = refl
+    entries_same name (k ∷ ks) =
+        ap (λ vs. option_map (λ v. (k, v)) (variable_named name (filter is_of_instance vs)) or_else nearest (instance_entry inside name) ks) (variables_same unit c m ls k)
+        ∙ ap (λ o. instance_entry unit name k or_else o) (entries_same name ks)
+
+    member_same : (k : ℕ) (name : List ℕ) → instance_variable inside k name ≡ instance_variable unit k name
+    unfolding instance_variable
+    member_same k name = entries_same name (chain (classes_in decls) k)
+
     each_named : AllTold inside → (x : Named) → IsToldNamed inside x
     each_named a (alone name) = a.names name
     each_named a (before_dot name) = (a.names name, first_type name (unit_names decls).types all_told.types)
@@ -108,8 +124,14 @@ module _ (most : ℕ) (decls : List (Decl ℕ)) (p : Checked) (fine : IsFormed m
       types = scope_types Seen inside s;
       fit = scope_fits Seen inside s;
       told = λ e asked f n. named inside e asked (every_one (IsToldNamed inside) (each_named a) (named_in e)) f n;
-      field = λ n name f e. let t = some_told f.1.kind (field_told decls p good checked n name f (parts_are_told decls all_told) e) in (t.0, t.1, field_only decls p good checked n name f t.0 e t.1);
-      member = λ k name v e. let t = some_told v.1.kind (member_told decls good all_told k name v e) in (t.0, t.1, member_only decls good p checked k name v t.0 e t.1);
+      field = λ n name f e.
+          let q = sym (field_same n name) ∙ e in
+          let t = some_told f.1.kind (field_told decls p good checked n name f (parts_are_told decls all_told) q) in
+          (t.0, t.1, field_only decls p good checked n name f t.0 q t.1);
+      member = λ k name v e.
+          let q = sym (member_same k name) ∙ e in
+          let t = some_told v.1.kind (member_told decls good all_told k name v q) in
+          (t.0, t.1, member_only decls good p checked k name v t.0 q t.1);
     }
 
   pub unit_knows : Knows Seen unit

@@ -145,6 +145,15 @@ abbrev variables_in_class : Option DeclaredClass → List DeclaredVariable
 variables_in_class None = []
 variables_in_class (Some class) = class.variables
 
+-- what the nearest of a chain has
+pub nearest_has : {X : Type 0} (P : X → Type 0) (has : ℕ → Option X) → ((b : ℕ) (x : X) → has b ≡ Some x → P x) → (cs : List ℕ) (x : X) → nearest has cs ≡ Some x → P x
+nearest_has P has f [] x e = absurd (none≢some e)
+nearest_has P has f (c ∷ cs) x e = by (has c) refl e (nearest_has P has f cs x)
+  where
+    by : (o : Option _) → has c ≡ o → (o or_else nearest has cs) ≡ Some x → (nearest has cs ≡ Some x → P x) → P x
+    by None q g k = k g
+    by (Some y) q g k = f c x (q ∙ g)
+
 among_self : (ks : List ℕ) → Every (λ k. is_among k ks ≡ true) ks
 among_self [] = tt
 among_self (k ∷ ks) = (or-first (nat_eq k k) (is_among k ks) (eq-eqb k k refl), every_means (λ j. is_among j ks ≡ true) (λ j. is_among j (k ∷ ks) ≡ true) (λ j h. or-second (nat_eq j k) (is_among j ks) h) ks (among_self ks))
@@ -310,14 +319,6 @@ module _ (decls : List (Decl ℕ)) (good : BreaksNothing decls) where
   means c = means_within (length (chain classes c)) c (omega arith)
 
   -- ---- what it means has a type
-
-  nearest_has : (P : ℕ × DeclaredVariable → Type 0) (has : ℕ → Option (ℕ × DeclaredVariable)) → ((b : ℕ) (x : ℕ × DeclaredVariable) → has b ≡ Some x → P x) → (cs : List ℕ) (x : ℕ × DeclaredVariable) → nearest has cs ≡ Some x → P x
-  nearest_has P has f [] x e = absurd (none≢some e)
-  nearest_has P has f (c ∷ cs) x e = by (has c) refl e (nearest_has P has f cs x)
-    where
-      by : (o : Option (ℕ × DeclaredVariable)) → has c ≡ o → (o or_else nearest has cs) ≡ Some x → (nearest has cs ≡ Some x → P x) → P x
-      by None q g k = k g
-      by (Some y) q g k = f c x (q ∙ g)
 
   pub member_told : AllIsTold decls → (c : ℕ) (name : List ℕ) (m : ℕ × DeclaredVariable) → instance_variable unit c name ≡ Some m → is_some m.1.kind ≡ true
   unfolding instance_variable

@@ -39,7 +39,7 @@ use Rattle.st_unit_rules.specs.declared_names.Constants.{Outcome, comes_to, divi
 use Rattle.st_unit_rules.specs.declared_names.Declarations.{configuration_globals, entries_in}
 use Rattle.st_unit_rules.specs.declared_names.WrittenTypes.{type_written}
 use Rattle.st_unit_rules.specs.declared_names.Variables.{Written, sections_written, sections_in, may_be_constant, value_given, constant_target, constant_of, declared_with, declared_each, member_targets, members_declared, local_targets, result_declared, locals_declared, routine_locals}
-use Rattle.st_unit_rules.specs.declared_names.UnitNames.{forgotten, forgotten_class, forgotten_parts, forgotten_global, forgotten_names, constants_written, told_locals, locals_of, program_locals, unit_scope, class_scope, outer_scope, method_scope, function_scope, prototype_scope, program_scope, class_declared, parts_declared, variables_declared, region_count, globals_from, names_from, no_names, names_told, unit_names}
+use Rattle.st_unit_rules.specs.declared_names.UnitNames.{forgotten, forgotten_class, forgotten_parts, forgotten_global, forgotten_names, constants_written, told_locals, locals_of, program_locals, unit_scope, class_scope, outer_scope, method_scope, function_scope, prototype_scope, program_scope, class_declared, parts_declared, variables_declared, region_count, globals_from, names_from, no_names, names_told, steps_needed, unit_names}
 use Rattle.st_unit_rules.specs.Checked.{TypedEntry, TypedTypeBody, IsChecked}
 use Rattle.st_values.specs.Program.{Program}
 use Rattle.st_values.specs.Shape.{Enumeration, shape_by, shape_within, simple_shape, values_of}
@@ -149,11 +149,11 @@ module _ (p : Program) where
   -- ---- all names
 
   abbrev AreValues : List (Decl ℕ) → Type 0
-  AreValues decls = (n : ℕ) (t : TypeDecl ℕ) (k : ℕ) → slice_get (entries_in decls) n ≡ Some t → k < length (value_names (parts_declared decls no_names t.body)) → NumberIs p (type.Enumeration n) (pos k)
+  AreValues decls = (n : ℕ) (t : TypeDecl ℕ) (k : ℕ) → slice_get (entries_in decls) n ≡ Some t → k < length (value_names (parts_declared decls (no_names decls) t.body)) → NumberIs p (type.Enumeration n) (pos k)
 
   module _ (decls : List (Decl ℕ)) (values : AreValues decls) where
     -- the values of an enumeration do not depend on what is told
-    same_values : (a : DeclaredNames) (b : TypeBody ℕ) → value_names (parts_declared decls a b) ≡ value_names (parts_declared decls no_names b)
+    same_values : (a : DeclaredNames) (b : TypeBody ℕ) → value_names (parts_declared decls a b) ≡ value_names (parts_declared decls (no_names decls) b)
     same_values a (body.Alias t) = refl
     same_values a (body.Enumeration ns) = refl
     same_values a (body.Structure gs) = refl
@@ -231,7 +231,7 @@ module _ (p : Program) where
 
     unit_right : Right (unit_names decls)
     unfolding unit_names
-    unit_right = told_right _
+    unit_right = told_right (suc (suc (steps_needed decls)))
 
     -- ---- every scope of the unit
 

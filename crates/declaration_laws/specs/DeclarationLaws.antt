@@ -20,30 +20,18 @@ use Rattle.st_unit_rules.specs.Checked.{IsChecked}
 use Rattle.st_unit_rules.specs.DeclarationRules.{signatures}
 use Rattle.st_unit_rules.specs.RefusalLaws.{IsGood}
 use Rattle.st_unit_rules.specs.Worth.{same_worth}
-use Rattle.st_values.specs.Program.{Region, Routine, Class, Program, class_at, class_number, own_method, body_of, conforms}
+use Rattle.st_values.specs.Program.{conforms}
 use Rattle.st_values.specs.View.{program_of}
 use Rattle.st_meaning.specs.st_frame.Promise.Calls.{HasInstance}
-use Rattle.st_meaning.specs.st_frame.Promise.Declarations.{Each, LocalIs, ParameterIs, VariableFits}
 use Rattle.accepted_texts.specs.formed_units.Formed.{IsFormed}
 use Rattle.accepted_texts.specs.told_units.Told.{WrittenIn}
 use Rattle.place_laws.specs.Agrees.{ConstantIs}
-
--- the locals of a routine unfold, begin in range and hold no instance, and its parameters are its variables
-abbrev pub DeclaresRight : Program → Routine → Type 0
-DeclaresRight p r = Each (LocalIs p) r.locals × Each (ParameterIs p r) r.parameters
+use Rattle.declaration_laws.specs.DeclarationsAre.{DeclarationsAre}
 
 -- of one unit with its program
 pub record AreRight (decls : List (Decl ℕ)) (p : Checked) : Type 0 where
-  -- a region's type unfolds, and it begins in range
-  pub regions : Each (λ (x : Region). VariableFits (program_of p) x.variable) (program_of p).regions
-  -- what methods and functions declare
-  pub methods : (c : ℕ) (name : List ℕ) (r : Routine) → own_method (program_of p) name c ≡ Some r → DeclaresRight (program_of p) r
-  pub functions : (k : ℕ) (r : Routine) → slice_get (program_of p).functions k ≡ Some r → DeclaresRight (program_of p) r
-  -- and the bodies of function blocks and programs
-  pub bodies : (c : ℕ) (r : Routine) → body_of (program_of p) c ≡ Some r → DeclaresRight (program_of p) r
-  -- a class is found by its name, and conforms to itself
-  pub numbered : (c : ℕ) (k : Class) → class_at (program_of p) c ≡ Some k → class_number (program_of p) k.name ≡ Some c
-  pub itself : (c : ℕ) (k : Class) → class_at (program_of p) c ≡ Some k → conforms (program_of p) c (type.Instance c) ≡ true
+  -- regions, classes and the declarations of routines
+  pub declarations : DeclarationsAre (program_of p)
   -- a constant has its type, and is a number of it
   pub constants : (s : Scope) (o : Option (TypeSpec ℕ)) (ss : List (Section ℕ)) → WrittenIn decls s o ss → (called : Bool) (name : List ℕ) (c : Option ℕ) (v : DeclaredVariable) → sought s called name ≡ Some (a_variable c v) → v.constant ≡ true
       → (t : StType) × (v.kind ≡ Some t) × ConstantIs (program_of p) v.target t
