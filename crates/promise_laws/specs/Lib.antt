@@ -1,3 +1,2 @@
 pub mod BodiesAre
-pub mod DeclarationsAre
 pub mod PromiseLaws

@@ -1,4 +1,4 @@
--- What is promised of a program follows from its declarations and its bodies, and the bodies of a unit that breaks no rule are right.
+-- The checked program of a good unit keeps what is promised: its declarations, its bodies and its classes are right.
 use Rattle.std.specs.Prelude.{◌≡◌, ℕ, List, Some, slice_get}
 use Rattle.st_tree.specs.declared.declaration.ClassDecl.{ClassDecl}
 use Rattle.st_tree.specs.declared.declaration.FunctionDecl.{FunctionDecl}
@@ -10,13 +10,14 @@ use Rattle.st_rules.specs.Classes.{classes_in, methods_in}
 use Rattle.st_unit_rules.specs.declared_names.Declarations.{functions_in, programs_in}
 use Rattle.st_unit_rules.specs.declared_names.UnitNames.{unit_names, class_scope, method_scope, function_scope, program_scope}
 use Rattle.st_unit_rules.specs.Checked.{IsChecked}
+use Rattle.st_unit_rules.specs.RefusalLaws.{IsGood}
 use Rattle.st_unit_rules.specs.UnitRefusal.{BreaksNothing}
 use Rattle.st_values.specs.View.{program_of}
 use Rattle.st_meaning.specs.st_frame.Promise.Programs.{ProgramIs}
 use Rattle.accepted_texts.specs.formed_units.Formed.{IsFormed}
 use Rattle.class_laws.specs.ClassLaws.{HasNoCycle}
 use Rattle.promise_laws.specs.BodiesAre.{BodiesAre}
-use Rattle.promise_laws.specs.DeclarationsAre.{DeclarationsAre}
+use Rattle.declaration_laws.specs.DeclarationsAre.{DeclarationsAre}
 use Rattle.scope_laws.specs.Agreement.{HasNumbers, MeetsInterfaces}
 
 -- what constants come to, in all scopes of texts
@@ -30,3 +31,5 @@ pub record PromiseLaws : Type 0 where
   pub bodies : (most : ℕ) (decls : List (Decl ℕ)) (p : Checked) → IsFormed most decls → BreaksNothing decls → IsChecked decls p → HasNoCycle p → MeetsInterfaces decls p → AllHaveNumbers decls p → BodiesAre (program_of p)
   -- declarations, bodies and the chains of classes together
   pub joined : (p : Checked) → HasNoCycle p → DeclarationsAre (program_of p) → BodiesAre (program_of p) → ProgramIs (program_of p)
+  -- the checked program of a good unit that is formed keeps the promise
+  pub kept : (most : ℕ) (decls : List (Decl ℕ)) (p : Checked) → IsFormed most decls → IsGood decls → IsChecked decls p → ProgramIs (program_of p)

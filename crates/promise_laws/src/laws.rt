@@ -2,7 +2,7 @@
 
 ghost use Rattle.promise_laws.specs.PromiseLaws.{PromiseLaws};
 
-/// The bodies of a unit that breaks no rule are as it is promised.
+/// The checked program of a good unit that is formed keeps what is promised to its meaning.
 pub fn promise_laws()
     ensures { PromiseLaws }
 {}
