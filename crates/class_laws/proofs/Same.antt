@@ -1,5 +1,5 @@
 -- A unit and its checked program have the same look-ups: the same methods are found, and the same conforms.
-use Rattle.std.proofs.Common.{◌≡◌, ℕ, zero, suc, ◌+◌, Bool, true, false, List, [], ◌∷◌, map, length, Option, Some, None, refl, sym, ap, ◌∙◌, nat_eq, arith}
+use Rattle.std.proofs.Common.{◌≡◌, ℕ, zero, suc, ◌+◌, Bool, List, [], ◌∷◌, map, length, Option, Some, None, refl, ap, ◌∙◌, nat_eq}
 use Rattle.std.specs.Prelude.{◌&&◌, ◌||◌, if◌then◌else◌, option_map, option_and_then, slice_get, unwrap_or}
 use Rattle.std.specs.Option.{is_some}
 use Rattle.std.specs.List.{list_any, cons_option}
@@ -22,7 +22,7 @@ use Rattle.st_rules.specs.Kinds.{converts, is_assignable, narrower_instance, is_
 use Rattle.st_rules.specs.Named.{first_place}
 use Rattle.st_rules.specs.Numbered.{any_numbered}
 use Rattle.st_rules.specs.Types.{same_type}
-use Rattle.st_unit_rules.specs.Checked.{Each, EachFrom, IfThere, TypedUsed, TypedMethod, TypedMember, TypedClass, TypedPrototype, TypedInterface, interface_meant, IsChecked}
+use Rattle.st_unit_rules.specs.Checked.{Each, IfThere, TypedUsed, TypedMethod, TypedMember, TypedClass, TypedPrototype, TypedInterface, interface_meant, IsChecked}
 use Rattle.accepted_texts.proofs.unfolding_laws.ListLaws.{each_get, each_long, from_get}
 use Rattle.accepted_texts.proofs.unfolding_laws.ChainLaws.{chain_same}
 

@@ -1,7 +1,7 @@
 -- The bodies of a unit that breaks no rule are as it is promised.
-use Rattle.std.proofs.Common.{◌≡◌, ◌<◌, ℕ, zero, suc, ◌+◌, Bool, true, false, List, [], ◌∷◌, ◌++◌, map, length, Option, Some, None, refl, sym, ap, ◌∙◌, subst, inl, inr, ◌⊎◌, arith, nat_eq}
-use Rattle.std.specs.Prelude.{if◌then◌else◌, option_map, option_and_then, slice_get}
-use Rattle.std.proofs.lemmas.Option.{slice_get-map, slice_get_within}
+use Rattle.std.proofs.Common.{◌≡◌, ℕ, zero, suc, ◌+◌, Bool, true, false, List, [], ◌∷◌, ◌++◌, map, length, Option, Some, None, refl, sym, ap, ◌∙◌, subst, inl, inr, ◌⊎◌, arith}
+use Rattle.std.specs.Prelude.{if◌then◌else◌, option_and_then, slice_get}
+use Rattle.std.proofs.lemmas.Option.{slice_get-map}
 use Rattle.plc_text.specs.Words.{same}
 use Rattle.st_tree.specs.declared.declaration.ClassDecl.{ClassDecl}
 use Rattle.st_tree.specs.declared.declaration.FunctionDecl.{FunctionDecl}
@@ -13,7 +13,7 @@ use Rattle.st_tree.specs.declared.unit.Decl.{Decl}
 use Rattle.st_tree.specs.Statement.{Statements, statements_of}
 use Rattle.st_rules.specs.declared.ids.MethodId.{MethodId}
 use Rattle.st_rules.specs.Chains.{nearest, ◌or_else◌}
-use Rattle.st_rules.specs.Classes.{classes_in, methods_in, method_id, method_at}
+use Rattle.st_rules.specs.Classes.{classes_in, methods_in, method_id}
 use Rattle.st_rules.specs.ClassRules.{class_faults}
 use Rattle.st_rules.specs.Scope.{Scope}
 use Rattle.st_rules.specs.Statements.{body_faults, typed_statements}
@@ -21,13 +21,12 @@ use Rattle.st_rules.proofs.Booleans.{none≢some, some-same}
 use Rattle.st_unit_rules.specs.declared_names.Declarations.{functions_in, programs_in}
 use Rattle.st_unit_rules.specs.declared_names.UnitNames.{unit_names, class_scope, method_scope, function_scope, program_scope}
 use Rattle.st_unit_rules.specs.Checked.{Each, TypedMethod, TypedClass, TypedFunction, TypedProgram, IsChecked}
-use Rattle.st_unit_rules.specs.DeclarationRules.{signatures, program_faults}
+use Rattle.st_unit_rules.specs.DeclarationRules.{signatures}
 use Rattle.st_unit_rules.specs.UnitRefusal.{BreaksNothing}
 use Rattle.st_unit_rules.specs.Worth.{same_worth}
 use Rattle.st_values.specs.Program as seen
 use Rattle.st_values.specs.Program.{Routine, Class, class_at, chain_of, named, own_method, lookup, body_of, body_in}
 use Rattle.st_values.specs.View.{method_of, function_of, class_of, classes_from, programs_from, body_routine, variables_in, program_of}
-use Rattle.st_values.specs.View as view
 use Rattle.st_values.proofs.ShapeLaws.{mapped_some}
 use Rattle.st_meaning.specs.st_frame.Promise.Names.{Scope as Around}
 use Rattle.st_meaning.specs.st_frame.Promise.Statements.{StatementsAre}
@@ -35,11 +34,10 @@ use Rattle.st_meaning.specs.st_frame.Promise.Declarations.{scope_of}
 use Rattle.accepted_texts.specs.formed_units.Formed.{FormedBody, IsFormed}
 use Rattle.accepted_texts.specs.told_units.Told.{AllIsTold}
 use Rattle.accepted_texts.proofs.unfolding_laws.CycleLaws.{none_in}
-use Rattle.accepted_texts.proofs.unfolding_laws.ListLaws.{if_there, if_found, each_get, from_get}
-use Rattle.accepted_texts.proofs.unfolding_laws.ChainLaws.{class_seen}
+use Rattle.accepted_texts.proofs.unfolding_laws.ListLaws.{if_found, each_get, from_get}
 use Rattle.accepted_texts.proofs.told_units.Law.{program-rules}
 use Rattle.accepted_texts.proofs.told_units.Whole.{class-rules}
-use Rattle.class_laws.proofs.Above.{NoCycle, ClassAt, ProgramAt, at_number}
+use Rattle.class_laws.proofs.Above.{NoCycle, at_number}
 use Rattle.class_laws.proofs.Same.{methods_each}
 use Rattle.place_laws.specs.Agrees.{Agrees}
 use Rattle.promise_laws.specs.BodiesAre.{BodyIs, BodiesAre}

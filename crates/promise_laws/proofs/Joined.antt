@@ -20,7 +20,7 @@ use Rattle.class_laws.proofs.Above.{NoCycle, at_number}
 use Rattle.class_laws.proofs.Parameters.{locals_apart, bodies_apart}
 use Rattle.promise_laws.specs.BodiesAre.{BodyIs, BodiesAre}
 use Rattle.declaration_laws.specs.DeclarationsAre.{RoutineDeclared, DeclarationsAre}
-use Rattle.promise_laws.proofs.Bodies.{AsClass, AsProgram, by_number}
+use Rattle.promise_laws.proofs.Bodies.{by_number}
 
 together : (p : seen.Program) (r : Routine) → RoutineDeclared p r → AreApart r.parameters → BodyIs p r → RoutineIs p r
 together p r d a b = record { locals = d.locals; parameters = d.parameters; apart = a; body = b }

@@ -1,7 +1,6 @@
 -- The body of a block takes the parameters that its chain declares, those of its bases first.
-use Rattle.std.proofs.Common.{◌≡◌, ◌≤◌, ◌<◌, ℕ, zero, suc, ◌+◌, Bool, true, false, List, [], ◌∷◌, ◌++◌, reverse, length, Option, Some, None, refl, sym, ap, ◌∙◌, subst, inl, inr, arith, append-nil, ltb-false}
-use Rattle.std.specs.Prelude.{if◌then◌else◌, not, ◌&&◌, nat_lt, filter, flat_map, slice_get, IsTrue}
-use Rattle.std.specs.List.{list_any}
+use Rattle.std.proofs.Common.{◌≡◌, ◌≤◌, ℕ, suc, ◌+◌, Bool, true, false, List, [], ◌∷◌, ◌++◌, reverse, length, Option, Some, None, refl, sym, ap, ◌∙◌, subst, inl, arith, append-nil, ltb-false}
+use Rattle.std.specs.Prelude.{if◌then◌else◌, not, ◌&&◌, nat_lt, filter, flat_map, slice_get}
 use Rattle.std.proofs.lemmas.List.Elements.{filter-append}
 use Rattle.std.proofs.lemmas.Option.{slice_get_within}
 use Rattle.plc_text.specs.declared.code.Code.TheVariants.{E16}
@@ -10,11 +9,9 @@ use Rattle.st_types.specs.declared.st_type.StType.TheVariants as type
 use Rattle.st_tree.specs.declared.declaration.ClassDecl.{ClassDecl}
 use Rattle.st_tree.specs.declared.declaration.SectionSort.{SectionSort}
 use Rattle.st_tree.specs.declared.declaration.SectionSort.TheVariants as sort
-use Rattle.st_tree.specs.declared.program.Note.{Note}
 use Rattle.st_tree.specs.declared.program.Program.{Program as Checked}
 use Rattle.st_tree.specs.declared.unit.Decl.{Decl}
 use Rattle.st_tree.specs.Declarations.{is_global}
-use Rattle.st_tree.specs.Statement.{statements_of}
 use Rattle.st_rules.specs.declared.names.DeclaredClass.{DeclaredClass}
 use Rattle.st_rules.specs.declared.names.DeclaredNames.{DeclaredNames}
 use Rattle.st_rules.specs.declared.names.DeclaredVariable.{DeclaredVariable}
@@ -24,25 +21,21 @@ use Rattle.st_rules.specs.Calls.{block_parameters}
 use Rattle.st_rules.specs.Chains.{is_among}
 use Rattle.st_rules.specs.Classes.{classes_in, chain}
 use Rattle.st_rules.specs.Numbered.{each_numbered}
-use Rattle.st_rules.specs.Scope.{Scope, is_external, is_instance_sort, is_body_sort, is_block_at, variables_of}
+use Rattle.st_rules.specs.Scope.{Scope, is_external, is_block_at, variables_of}
 use Rattle.st_rules.specs.Signatures.{is_parameter_sort}
-use Rattle.st_rules.specs.Statements.{body_faults}
-use Rattle.st_rules.proofs.Booleans.{none≢some, some-same, true≢false, false≢true}
+use Rattle.st_rules.proofs.Booleans.{none≢some, some-same, true≢false}
 use Rattle.st_unit_rules.specs.declared_names.UnitNames.{unit_names, class_scope, class_declared, names_from}
 use Rattle.st_unit_rules.specs.declared_names.Variables as written
 use Rattle.st_unit_rules.specs.declared_names.Variables.{Written, sections_written, is_body_written}
-use Rattle.st_unit_rules.specs.declared_names.WrittenTypes.{type_written}
 use Rattle.st_unit_rules.specs.Checked.{Each, IsChecked}
 use Rattle.st_unit_rules.specs.DeclarationRules.{item_too_deep, body_locals as body_declared, class_too_deep, class_limits}
 use Rattle.st_unit_rules.specs.Limits.{all_values, too_many_methods, too_many_parameters, too_many_locals, too_many_bases}
 use Rattle.st_unit_rules.specs.UnitRefusal.{BreaksNothing}
 use Rattle.st_values.specs.Program as seen
 use Rattle.st_values.specs.Program.{Variable, to_local, to_variable, Parameter, Routine, Class, class_at, class_variables, conforms, body_of}
-use Rattle.st_values.specs.View.{is_kept, is_of_body, those, variables_in, sections_in, declared_by, declared_along, body_parameters, body_routine, class_of, program_of}
-use Rattle.st_meaning.specs.Call.{is_in_out}
+use Rattle.st_values.specs.View.{is_kept, is_of_body, those, variables_in, sections_in, declared_by, declared_along, body_parameters, class_of, program_of}
 use Rattle.st_meaning.specs.st_frame.Footprint.{Enters, by_body, by_base}
 use Rattle.st_meaning.specs.st_frame.Use.{Called, a_body_of, the_body_from, called_parameters}
-use Rattle.st_meaning.specs.st_frame.Promise.Types.{Serves, same_place}
 use Rattle.st_meaning.specs.st_frame.Promise.Calls.{IsLiving, Answers, SameInOuts, most_parameters}
 use Rattle.resolution_order.specs.told_laws.ToldLaws.{Every}
 use Rattle.resolution_order.proofs.told_laws.Telling.{told_laws}
@@ -57,11 +50,11 @@ use Rattle.accepted_texts.proofs.told_units.Whole.{class-rules}
 use Rattle.accepted_texts.proofs.sized_units.Variables.{IsOf, is_variable, all_of}
 use Rattle.class_laws.proofs.Above.{NoCycle, variables_above, back}
 use Rattle.class_laws.proofs.Derived.{derived_begins}
-use Rattle.place_laws.specs.Agrees.{Declares, Fills, FillsBy, TakesBy, Gives, Runs}
-use Rattle.scope_laws.proofs.Entered.{Conforming, conforming}
-use Rattle.scope_laws.proofs.Members.{class_typed, kept_by, local_by, body_locals, locals_above}
+use Rattle.place_laws.specs.Agrees.{Declares, FillsBy, TakesBy, Gives, Runs}
+use Rattle.scope_laws.proofs.Entered.{conforming}
+use Rattle.scope_laws.proofs.Members.{class_typed, kept_by, body_locals, locals_above}
 use Rattle.scope_laws.proofs.Routines.{told_there as kind_there, kind_seen}
-use Rattle.scope_laws.proofs.Rows.{From, from_front, from_first, from_next, here, past, inside_of, no_constant, no_external, Headed, first_of, skipped}
+use Rattle.scope_laws.proofs.Rows.{From, from_first, from_next, inside_of, no_constant, no_external, Headed, first_of, skipped}
 use Rattle.scope_laws.proofs.Stands.{IsInside, sections_inside, members_inside, class_formed}
 use Rattle.scope_laws.proofs.Texts.{class_there}
 

@@ -1,6 +1,6 @@
 -- What a call of a function or a method may enter takes what is declared and gives the result that is declared.
-use Rattle.std.proofs.Common.{◌≡◌, ◌≤◌, ◌<◌, ℕ, zero, suc, Bool, true, false, List, [], ◌∷◌, ◌++◌, length, Option, Some, None, refl, sym, ap, ◌∙◌, subst, inl, inr, ◌⊎◌, arith, append-nil}
-use Rattle.std.specs.Prelude.{not, nat_eq, option_map, option_and_then, slice_get, IsTrue}
+use Rattle.std.proofs.Common.{◌≡◌, ◌≤◌, ◌<◌, ℕ, Bool, true, false, List, [], ◌∷◌, length, Option, Some, None, refl, sym, ap, ◌∙◌, subst, inl, inr, arith, append-nil}
+use Rattle.std.specs.Prelude.{not, nat_eq, option_map, option_and_then, slice_get}
 use Rattle.std.proofs.lemmas.Option.{slice_get-map, slice_get_within}
 use Rattle.st_rules.specs.Named.{first_place}
 use Rattle.std.proofs.lemmas.Bool.{eq-eqb}
@@ -9,7 +9,6 @@ use Rattle.st_tree.specs.Initial.{initial_of}
 use Rattle.st_tree.specs.declared.initial.Init.{Init}
 use Rattle.st_tree.specs.declared.type_spec.TypeSpec.{TypeSpec}
 use Rattle.plc_text.specs.Words.{same}
-use Rattle.st_types.specs.declared.st_type.StType.{StType}
 use Rattle.st_types.specs.declared.st_type.StType.TheVariants as type
 use Rattle.st_tree.specs.declared.declaration.ClassDecl.{ClassDecl}
 use Rattle.st_tree.specs.declared.declaration.FunctionDecl.{FunctionDecl}
@@ -26,13 +25,13 @@ use Rattle.st_rules.specs.declared.names.DeclaredVariable.{DeclaredVariable}
 use Rattle.st_rules.specs.declared.signature.ResultType.{ResultType}
 use Rattle.st_rules.specs.declared.signature.Signature.{Signature}
 use Rattle.st_rules.specs.Chains.{is_among, IsAbove, directly, further, nearest, ◌or_else◌}
-use Rattle.st_rules.specs.Classes.{classes_in, base_of, chain, lookup, own_method, method_at, methods_in}
+use Rattle.st_rules.specs.Classes.{classes_in, base_of, chain, lookup, own_method, method_at}
 use Rattle.st_rules.specs.Classes as rules
 use Rattle.st_rules.specs.ClassRules.{class_faults}
 use Rattle.st_rules.specs.Interfaces.{interfaces_in, interface_lookup}
 use Rattle.st_rules.specs.Scope.{Scope, method_routine, prototype_routine}
 use Rattle.st_rules.specs.Signatures.{differ, same_signature, signature_of, prototype_signature}
-use Rattle.st_rules.proofs.Booleans.{none≢some, some-same, false≢true, or-first, or-second}
+use Rattle.st_rules.proofs.Booleans.{none≢some, some-same, or-first, or-second}
 use Rattle.st_rules.proofs.ClassLaws.{bases_within, chain_law}
 use Rattle.st_unit_rules.specs.declared_names.Declarations.{functions_in, entries_in}
 use Rattle.st_unit_rules.specs.declared_names.UnitNames.{unit_names, unit_scope, method_scope, function_scope, prototype_scope, routine_declared, method_declared, prototype_declared}
@@ -41,24 +40,24 @@ use Rattle.st_unit_rules.specs.DeclarationRules.{signatures, signature_in}
 use Rattle.st_unit_rules.specs.UnitRefusal.{BreaksNothing}
 use Rattle.st_unit_rules.specs.Worth.{Worth, same_worth, worth_of}
 use Rattle.st_values.specs.Program as seen
-use Rattle.st_values.specs.Program.{Parameter, Routine, class_at, conforms}
+use Rattle.st_values.specs.Program.{Parameter, Routine, conforms}
 use Rattle.st_values.specs.View as view
-use Rattle.st_values.specs.View.{method_of, function_of, class_of, program_of}
+use Rattle.st_values.specs.View.{method_of, function_of, program_of}
 use Rattle.st_meaning.specs.st_frame.Footprint.{Enters, by_number, by_class, by_text}
 use Rattle.st_meaning.specs.st_frame.Use.{Called, the_function, a_method_of, a_method_from, parameters_of, signed, signatures_at, interface_parameters, called_parameters}
 use Rattle.st_meaning.specs.st_frame.Promise.Calls.{IsLiving, Answers, most_parameters}
 use Rattle.accepted_texts.specs.formed_units.Formed.{IsFormed}
 use Rattle.accepted_texts.specs.told_units.Told.{AllIsTold}
 use Rattle.accepted_texts.proofs.unfolding_laws.ListLaws.{There, there_below, if_there, each_get, from_long}
-use Rattle.accepted_texts.proofs.unfolding_laws.ChainLaws.{chain_same, class_seen}
-use Rattle.class_laws.proofs.Above.{ClassAt, ProgramAt, at_number, only_one, there}
+use Rattle.accepted_texts.proofs.unfolding_laws.ChainLaws.{chain_same}
+use Rattle.class_laws.proofs.Above.{at_number, only_one, there}
 use Rattle.class_laws.proofs.Overrides.{chain_found}
 use Rattle.class_laws.proofs.Signed.{parameters_same}
-use Rattle.place_laws.specs.Agrees.{Declares, Fills, FillsBy, TakesBy, Gives, ToldOutcome, Runs}
+use Rattle.place_laws.specs.Agrees.{FillsBy, TakesBy, Gives, ToldOutcome, Runs}
 use Rattle.scope_laws.specs.Agreement.{MeetsInterfaces}
-use Rattle.scope_laws.proofs.Found.{same_is, is_same, MethodShown, OwnFound, own_found, LookedUp, looked_up, PrototypeShown, PrototypeFound, prototype_found}
-use Rattle.scope_laws.proofs.Routines.{routine, declared_takes, routine_takes, few_parameters, told_result, routine_gives}
-use Rattle.scope_laws.proofs.Texts.{IsText, method_text, function_text, prototype_text, SameParameter, AlikeRoutines, alike_itself, alike_through, texts_alike, method_there, prototype_there, method_signature, interface_signature}
+use Rattle.scope_laws.proofs.Found.{same_is, is_same, MethodShown, own_found, LookedUp, looked_up, PrototypeShown, PrototypeFound, prototype_found}
+use Rattle.scope_laws.proofs.Routines.{declared_takes, routine_takes, few_parameters, told_result, routine_gives}
+use Rattle.scope_laws.proofs.Texts.{method_text, function_text, prototype_text, SameParameter, AlikeRoutines, alike_itself, alike_through, texts_alike, method_there, prototype_there, method_signature, interface_signature}
 
 -- ---- one routine for another
 

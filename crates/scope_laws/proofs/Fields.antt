@@ -1,30 +1,25 @@
 -- Fields and enumerations of a unit, as its checked program shows them.
-use Rattle.std.proofs.Common.{◌≡◌, ℕ, zero, suc, ◌+◌, Bool, true, false, List, [], ◌∷◌, map, Option, Some, None, refl, sym, ap, ◌∙◌, subst, arith}
+use Rattle.std.proofs.Common.{◌≡◌, ℕ, suc, ◌+◌, Bool, true, false, List, [], ◌∷◌, map, Option, Some, None, refl, sym, ap, ◌∙◌, subst, arith}
 use Rattle.std.specs.Prelude.{if◌then◌else◌, flat_map, option_map, slice_get}
 use Rattle.std.proofs.lemmas.Option.{slice_get-map}
 use Rattle.plc_text.specs.Words.{same}
 use Rattle.st_types.specs.declared.st_type.StType.{StType}
 use Rattle.st_types.specs.declared.st_type.StType.TheVariants as type
-use Rattle.st_types.specs.declared.st_type.StType.TheOpen.{StType-F}
 use Rattle.st_tree.specs.declared.declaration.FieldGroup.{FieldGroup}
 use Rattle.st_tree.specs.declared.declaration.TypeBody.{TypeBody}
 use Rattle.st_tree.specs.declared.declaration.TypeBody.TheVariants as body
 use Rattle.st_tree.specs.declared.declaration.TypeDecl.{TypeDecl}
-use Rattle.st_tree.specs.declared.name.Name.{Name}
 use Rattle.st_tree.specs.declared.program.Note.{Note}
 use Rattle.st_tree.specs.declared.program.Program.{Program as Checked}
 use Rattle.st_tree.specs.declared.unit.Decl.{Decl}
 use Rattle.st_rules.specs.declared.names.DeclaredField.{DeclaredField}
 use Rattle.st_rules.specs.declared.names.DeclaredNames.{DeclaredNames}
 use Rattle.st_rules.specs.declared.names.DeclaredVariable.{DeclaredVariable}
-use Rattle.st_rules.specs.declared.names.TypeParts.{TypeParts}
-use Rattle.st_rules.specs.declared.names.TypeParts.TheVariants as parts
-use Rattle.st_rules.specs.Scope.{Scope, field_from, field_list, field_named, parts_of}
+use Rattle.st_rules.specs.Scope.{field_from, field_list, field_named, parts_of}
 use Rattle.st_rules.proofs.Booleans.{none≢some, some-same}
 use Rattle.st_unit_rules.specs.declared_names.Declarations.{entries_in}
 use Rattle.st_unit_rules.specs.declared_names.UnitNames.{unit_names, unit_scope, names_from, group_declared, parts_declared}
 use Rattle.st_unit_rules.specs.Checked.{Each, TypedEntry, TypedGroup, TypedTypeBody, IsChecked}
-use Rattle.st_values.specs.Program.{Variable, Program}
 use Rattle.st_values.specs.Shape.{fields_of}
 use Rattle.st_values.specs.View.{groups_in, type_body, type_entry, program_of}
 use Rattle.st_meaning.specs.st_frame.Promise.Places.{FieldIs}

@@ -1,8 +1,7 @@
 -- The method that a name means in a class of a unit is the one that is found in its checked program; so with a method of an interface.
-use Rattle.std.proofs.Common.{◌≡◌, ◌<◌, ℕ, zero, suc, ◌+◌, Bool, true, false, List, [], ◌∷◌, ◌++◌, map, length, Option, Some, None, refl, sym, ap, ◌∙◌, subst, inl, inr, ◌⊎◌, arith}
+use Rattle.std.proofs.Common.{◌≡◌, ◌<◌, ℕ, zero, suc, ◌+◌, Bool, true, false, List, [], ◌∷◌, ◌++◌, map, length, Option, Some, None, refl, sym, ap, ◌∙◌, subst, inl, inr, arith}
 use Rattle.std.specs.Prelude.{if◌then◌else◌, filter_map, flat_map, option_map, option_and_then, slice_get}
 use Rattle.std.specs.List.{list_any, cons_option}
-use Rattle.std.proofs.lemmas.Option.{slice_get_within}
 use Rattle.std.proofs.lemmas.Slice.Eq.{bytes_eq-Decides}
 use Rattle.plc_text.specs.Words.{same}
 use Rattle.st_tree.specs.declared.declaration.ClassDecl.{ClassDecl}
@@ -14,15 +13,15 @@ use Rattle.st_tree.specs.declared.program.Program.{Program as Checked}
 use Rattle.st_tree.specs.declared.unit.Decl.{Decl}
 use Rattle.st_rules.specs.declared.ids.MethodId.{MethodId}
 use Rattle.st_rules.specs.declared.ids.PrototypeId.{PrototypeId}
-use Rattle.st_rules.specs.Chains.{is_among, nearest, ◌or_else◌}
+use Rattle.st_rules.specs.Chains.{nearest, ◌or_else◌}
 use Rattle.st_rules.specs.Classes.{classes_in, methods_in, method_names, method_id, own_method, method_at, chain, lookup}
 use Rattle.st_rules.specs.Interfaces.{interfaces_in, prototype_names, prototype_id, own_prototype, prototype_within, first_with, has_prototype, extended, interface_lookup, prototype_at}
 use Rattle.st_rules.specs.Named.{first_place}
 use Rattle.st_rules.proofs.Booleans.{none≢some, some-same, true≢false, false≢true, or-first, or-second, either}
 use Rattle.st_unit_rules.specs.Checked.{Each, TypedMethod, TypedClass, TypedPrototype, TypedInterface, IsChecked}
 use Rattle.st_values.specs.Program as seen
-use Rattle.st_values.specs.Program.{Parameter, Routine, Signature, class_at, named}
-use Rattle.st_values.specs.View.{method_of, signature_of, meant_in, interfaces_from, class_of, program_of}
+use Rattle.st_values.specs.Program.{Routine, Signature, class_at, named}
+use Rattle.st_values.specs.View.{method_of, signature_of, meant_in, interfaces_from, program_of}
 use Rattle.st_values.proofs.ShapeLaws.{mapped_some}
 use Rattle.st_meaning.specs.st_frame.Use.{signed, signatures_at}
 use Rattle.resolution_order.specs.told_laws.ToldLaws.{Every}

@@ -1,5 +1,5 @@
 -- The globals and the functions of a unit, by the numbers that they are declared with.
-use Rattle.std.proofs.Common.{◌≡◌, ◌<◌, ℕ, zero, suc, ◌+◌, Bool, true, false, List, [], ◌∷◌, ◌++◌, map, length, Option, Some, None, refl, sym, ap, ◌∙◌, subst, arith, append-nil, ltb-false}
+use Rattle.std.proofs.Common.{◌≡◌, ℕ, suc, ◌+◌, Bool, true, false, List, [], ◌∷◌, ◌++◌, map, length, Some, refl, sym, ap, ◌∙◌, subst, arith, append-nil, ltb-false}
 use Rattle.std.specs.Prelude.{if◌then◌else◌, not, ◌||◌, nat_lt, filter, flat_map, slice_get}
 use Rattle.std.specs.List.{list_any}
 use Rattle.std.proofs.lemmas.List.Concat.{flat_map-append}
@@ -16,7 +16,6 @@ use Rattle.st_tree.specs.declared.unit.Decl.TheVariants as declaration
 use Rattle.st_rules.specs.declared.names.DeclaredGlobal.{DeclaredGlobal}
 use Rattle.st_rules.specs.declared.names.DeclaredGlobal.TheVariants as global
 use Rattle.st_rules.specs.declared.names.DeclaredNames.{DeclaredNames}
-use Rattle.st_rules.specs.declared.names.DeclaredVariable.{DeclaredVariable}
 use Rattle.st_rules.specs.Scope.{Scope}
 use Rattle.st_rules.proofs.Booleans.{false≢true}
 use Rattle.st_unit_rules.specs.declared_names.Declarations.{Declaration, an_entry, a_global, an_interface, a_class, a_function, a_program, a_configuration, Region, of_global, of_instance, Placed, placed, placed_from, place_each, declarations_of, globals_of_item, globals_of_section, configuration_globals, region_of_global, regions_of, instances_of, is_configuration, is_first_configuration, number_among, functions_in}
@@ -25,12 +24,11 @@ use Rattle.st_unit_rules.specs.declared_names.Variables.{Written, item_written, 
 use Rattle.st_unit_rules.specs.declared_names.WrittenTypes.{type_written}
 use Rattle.st_unit_rules.specs.Checked.{regions_from, unit_regions}
 use Rattle.st_unit_rules.specs.ConfigurationRules.{second_configuration, tasks_and_instances}
-use Rattle.st_unit_rules.specs.DeclarationRules.{regions_faults, instance_regions, configuration_faults, sort_faults}
+use Rattle.st_unit_rules.specs.DeclarationRules.{regions_faults, instance_regions, sort_faults}
 use Rattle.st_unit_rules.specs.NameRules.{configuration_name_faults}
 use Rattle.st_unit_rules.specs.UnitRefusal.{BreaksNothing}
 use Rattle.resolution_order.specs.told_laws.ToldLaws.{Every}
 use Rattle.resolution_order.proofs.told_laws.Telling.{told_laws}
-use Rattle.resolution_order.proofs.told_laws.Tells.{pick}
 use Rattle.accepted_texts.proofs.unfolding_laws.CycleLaws.{none_in, not_when, none_there}
 use Rattle.accepted_texts.proofs.unfolding_laws.ListLaws.{every_append, every_back, every_from, Behind, all_behind, behind_here, behind_next, behind_part}
 

@@ -1,7 +1,6 @@
 -- The scopes of methods, functions, bodies of blocks and programs, each with what its text is seen as.
-use Rattle.std.proofs.Common.{◌≡◌, ℕ, ◌+◌, Bool, true, false, List, [], ◌∷◌, ◌++◌, length, Option, Some, None, refl, sym, ap, ◌∙◌, subst, arith}
-use Rattle.std.specs.Prelude.{not, ◌&&◌, filter, slice_get}
-use Rattle.plc_text.specs.Words.{same}
+use Rattle.std.proofs.Common.{◌≡◌, ℕ, ◌+◌, Bool, true, false, List, [], length, Option, Some, None, refl, sym, ap, ◌∙◌, subst, arith}
+use Rattle.std.specs.Prelude.{filter, slice_get}
 use Rattle.st_types.specs.declared.st_type.StType.{StType}
 use Rattle.st_tree.specs.declared.declaration.ClassDecl.{ClassDecl}
 use Rattle.st_tree.specs.declared.declaration.FunctionDecl.{FunctionDecl}
@@ -9,7 +8,6 @@ use Rattle.st_tree.specs.declared.declaration.ProgramDecl.{ProgramDecl}
 use Rattle.st_tree.specs.declared.declaration.Section.{Section}
 use Rattle.st_tree.specs.declared.program.Note.{Note}
 use Rattle.st_tree.specs.declared.program.Program.{Program as Checked}
-use Rattle.st_tree.specs.declared.program.Target.TheVariants as target
 use Rattle.st_tree.specs.declared.type_spec.TypeSpec.{TypeSpec}
 use Rattle.st_tree.specs.declared.unit.Decl.{Decl}
 use Rattle.st_tree.specs.Statement.{statements_of}
@@ -18,8 +16,8 @@ use Rattle.st_rules.specs.declared.names.DeclaredVariable.{DeclaredVariable}
 use Rattle.st_rules.specs.Classes.{classes_in}
 use Rattle.st_rules.specs.ClassRules.{class_faults}
 use Rattle.st_rules.specs.Scope.{Scope, variable_named, is_external, is_instance_sort, is_body_sort}
-use Rattle.st_rules.proofs.Booleans.{none≢some, some-same, true≢false, false≢true}
-use Rattle.st_unit_rules.specs.declared_names.Declarations.{a_program, functions_in, programs_in}
+use Rattle.st_rules.proofs.Booleans.{none≢some, some-same, true≢false}
+use Rattle.st_unit_rules.specs.declared_names.Declarations.{functions_in, programs_in}
 use Rattle.st_unit_rules.specs.declared_names.UnitNames.{unit_names, unit_scope, class_scope, method_scope, function_scope, program_scope}
 use Rattle.st_unit_rules.specs.declared_names.Variables.{Written, sections_written, result_declared, result_count, locals_declared, is_parameter_written, routine_locals}
 use Rattle.st_unit_rules.specs.declared_names.WrittenTypes.{type_written}
@@ -28,17 +26,17 @@ use Rattle.st_unit_rules.specs.DeclarationRules.{signatures}
 use Rattle.st_unit_rules.specs.UnitRefusal.{BreaksNothing}
 use Rattle.st_unit_rules.specs.Worth.{same_worth}
 use Rattle.st_values.specs.Program as seen
-use Rattle.st_values.specs.Program.{Variable, Routine, Class, class_at, class_variables}
-use Rattle.st_values.specs.View.{is_kept, is_of_body, those, variables_in, method_of, function_of, body_routine, class_of, program_of}
-use Rattle.st_meaning.specs.st_frame.Promise.Names.{Scope as Around, NameIs, OwnVariableIs}
+use Rattle.st_values.specs.Program.{Variable, class_variables}
+use Rattle.st_values.specs.View.{is_kept, is_of_body, those, variables_in, method_of, function_of, class_of, program_of}
+use Rattle.st_meaning.specs.st_frame.Promise.Names.{Scope as Around, NameIs}
 use Rattle.st_meaning.specs.st_frame.Promise.Declarations.{scope_of}
 use Rattle.resolution_order.specs.told_laws.ToldLaws.{Every}
 use Rattle.resolution_order.proofs.told_laws.LocalTelling.{local_laws}
 use Rattle.accepted_texts.specs.formed_units.Formed.{IsFormed}
 use Rattle.accepted_texts.specs.told_units.Told.{IsToldVariable, in_program, AllIsTold}
-use Rattle.accepted_texts.proofs.unfolding_laws.ListLaws.{every_append, if_there, each_get, each_long, from_long}
+use Rattle.accepted_texts.proofs.unfolding_laws.ListLaws.{every_append, from_long}
 use Rattle.accepted_texts.proofs.unfolding_laws.ChainLaws.{program_seen}
-use Rattle.accepted_texts.proofs.told_units.Inner.{AreRows, locals-rows, members-rows}
+use Rattle.accepted_texts.proofs.told_units.Inner.{locals-rows, members-rows}
 use Rattle.accepted_texts.proofs.sized_units.Kept.{program_variables}
 use Rattle.accepted_texts.proofs.sized_units.Variables.{all_of}
 use Rattle.class_laws.proofs.Above.{NoCycle}
@@ -46,12 +44,12 @@ use Rattle.place_laws.specs.Agrees.{HasPlace, Agrees}
 use Rattle.scope_laws.specs.Agreement.{HasNumbers, MeetsInterfaces}
 use Rattle.scope_laws.proofs.Found.{MethodShown}
 use Rattle.scope_laws.proofs.PlaceTypes.{KindFine, ToldFine, written_fine, rows_fine}
-use Rattle.scope_laws.proofs.Members.{class_typed, body_locals}
+use Rattle.scope_laws.proofs.Members.{body_locals}
 use Rattle.scope_laws.proofs.Routines.{kind_seen, local_placed}
 use Rattle.scope_laws.proofs.Rows.{From, outside, MemberRow, members_seen, found_named}
 use Rattle.scope_laws.proofs.Scopes.{agrees}
 use Rattle.scope_laws.proofs.Stands.{sections_inside, program_stands}
-use Rattle.scope_laws.proofs.Texts.{IsText, method_text, function_text}
+use Rattle.scope_laws.proofs.Texts.{method_text, function_text}
 
 all_from : (vs : List Variable) → From vs vs 0
 all_from vs = record { by = λ j v e. let z : 0 + j ≡ j = omega arith in ap (slice_get vs) z ∙ e }

@@ -1,36 +1,32 @@
 -- The variables of a class and the locals of its body, by the numbers that they are declared with: those of its bases come first.
-use Rattle.std.proofs.Common.{◌≡◌, ℕ, ◌+◌, ◌<◌, Bool, true, false, List, [], ◌∷◌, ◌++◌, map, reverse, length, Option, Some, None, refl, sym, ap, ◌∙◌, subst, inl, inr, arith, append-nil}
-use Rattle.std.specs.Prelude.{if◌then◌else◌, not, ◌&&◌, filter, flat_map, drop, slice_get}
+use Rattle.std.proofs.Common.{◌≡◌, ℕ, ◌+◌, Bool, true, false, List, [], ◌∷◌, ◌++◌, reverse, length, Some, refl, sym, ap, ◌∙◌, subst, arith, append-nil}
+use Rattle.std.specs.Prelude.{not, ◌&&◌, filter, flat_map, drop, slice_get}
 use Rattle.std.proofs.lemmas.List.{reverse-append}
 use Rattle.std.proofs.lemmas.List.Elements.{filter-append}
 use Rattle.std.proofs.lemmas.Option.{slice_get_within}
-use Rattle.st_types.specs.declared.st_type.StType.TheVariants as type
 use Rattle.st_tree.specs.declared.declaration.ClassDecl.{ClassDecl}
 use Rattle.st_tree.specs.declared.declaration.SectionSort.{SectionSort}
 use Rattle.st_tree.specs.declared.declaration.SectionSort.TheVariants as sort
 use Rattle.st_tree.specs.declared.program.Note.{Note}
 use Rattle.st_tree.specs.declared.program.Program.{Program as Checked}
 use Rattle.st_tree.specs.declared.unit.Decl.{Decl}
-use Rattle.st_rules.specs.declared.names.DeclaredVariable.{DeclaredVariable}
 use Rattle.st_rules.specs.Chains.{is_among}
 use Rattle.st_rules.specs.Classes.{classes_in, chain}
-use Rattle.st_rules.specs.Scope.{Scope, is_external, is_instance_sort, is_body_sort}
-use Rattle.st_rules.specs.ClassRules.{lies_on_cycle}
+use Rattle.st_rules.specs.Scope.{is_external, is_body_sort}
 use Rattle.st_unit_rules.specs.declared_names.UnitNames.{unit_names, class_scope, class_declared, written_by, written_above}
 use Rattle.st_unit_rules.specs.declared_names.Variables as written
 use Rattle.st_unit_rules.specs.declared_names.Variables.{Written, sections_written, is_kept_written, is_body_written}
-use Rattle.st_unit_rules.specs.Checked.{Each, TypedSection, TypedClass, IsChecked}
-use Rattle.st_values.specs.Program as seen
-use Rattle.st_values.specs.Program.{Variable, class_at, chain_of, own_of, own_variables, class_variables, conforms}
-use Rattle.st_values.specs.View.{is_kept, is_of_body, those, variables_in, sections_in, declared_by, declared_along, class_of, program_of}
+use Rattle.st_unit_rules.specs.Checked.{Each, TypedClass, IsChecked}
+use Rattle.st_values.specs.Program.{Variable, class_at, chain_of, own_of, own_variables, class_variables}
+use Rattle.st_values.specs.View.{is_kept, is_of_body, those, variables_in, sections_in, declared_by, declared_along, program_of}
 use Rattle.resolution_order.specs.told_laws.ToldLaws.{Every}
 use Rattle.accepted_texts.specs.formed_units.Formed.{IsFormed}
 use Rattle.accepted_texts.proofs.unfolding_laws.ListLaws.{There, Behind, all_behind, behind_part, if_there, from_get, each_long, front_get}
 use Rattle.accepted_texts.proofs.unfolding_laws.ChainLaws.{chain_there, chain_same, sections_typed, class_seen}
 use Rattle.accepted_texts.proofs.sized_units.Variables.{IsOf, is_variable, test_twice, all_of, those_of, kept_of}
-use Rattle.class_laws.proofs.Above.{NoCycle, EndsWith, chain_ends, variables_above}
+use Rattle.class_laws.proofs.Above.{NoCycle, EndsWith, chain_ends}
 use Rattle.scope_laws.proofs.Rows.{from_behind, MemberRow, members_seen}
-use Rattle.scope_laws.proofs.Stands.{IsInside, sections_inside, members_inside, class_formed}
+use Rattle.scope_laws.proofs.Stands.{sections_inside, members_inside, class_formed}
 
 body_sorts : (c : Bool) (so : SectionSort) → ((not c && not (is_external so)) && is_of_body so) ≡ (is_body_sort so && not c)
 body_sorts true sort.Var = refl

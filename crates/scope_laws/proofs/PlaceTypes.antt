@@ -28,18 +28,17 @@ use Rattle.st_rules.specs.Classes.{classes_in, base_of, chain, lookup}
 use Rattle.st_rules.specs.Numbered.{each_numbered}
 use Rattle.st_rules.specs.Interfaces.{interfaces_in}
 use Rattle.st_rules.specs.Kinds.{element_at_level, element_type}
-use Rattle.st_rules.specs.Places.{Standing, untold, a_value, own_instance, no_base, an_enumeration, a_value_of, Part, standing_of, standing_type, meant_type, part_type, field_part, member_part, value_part, instance_part, part_of, referenced, dereferenced, indexed, count_expressions, selected, along, root_standing, this_standing, super_standing, name_standing, qualified_standing, placed, place_type, method_part}
-use Rattle.st_rules.specs.Scope.{Scope, Meant, a_variable, a_function, an_enumerator, values_of, of_untold, no_qualifier, Qualifier, first_named, global_name, global_meaning, global_named, is_external, is_inherited, variables_of, variable_named, is_of_instance, of_class, own_entry, base_entry, class_entry, local_entry, entry, method_meaning, enumerator_meaning, only_enumerator, meant_by, meaning_behind, sought, dot_qualifier, field_named, instance_entry, instance_variable, value_of}
+use Rattle.st_rules.specs.Places.{Standing, untold, a_value, own_instance, no_base, an_enumeration, a_value_of, standing_of, standing_type, meant_type, part_type, field_part, member_part, value_part, instance_part, part_of, referenced, dereferenced, indexed, count_expressions, selected, along, root_standing, this_standing, super_standing, name_standing, qualified_standing, placed, place_type}
+use Rattle.st_rules.specs.Scope.{Scope, Meant, a_variable, values_of, of_untold, no_qualifier, Qualifier, first_named, global_name, global_meaning, global_named, is_external, is_inherited, variables_of, variable_named, is_of_instance, of_class, own_entry, base_entry, class_entry, local_entry, entry, method_meaning, enumerator_meaning, only_enumerator, meaning_behind, sought, dot_qualifier, field_named, instance_entry, instance_variable, value_of}
 use Rattle.st_rules.specs.Scope as rules
-use Rattle.st_rules.proofs.Booleans.{none≢some, some-same}
+use Rattle.st_rules.proofs.Booleans.{none≢some}
 use Rattle.st_rules.proofs.ClassLaws.{bases_within}
-use Rattle.st_unit_rules.specs.declared_names.Declarations.{functions_in}
 use Rattle.st_unit_rules.specs.declared_names.UnitNames.{unit_names, unit_scope, class_scope, class_declared, names_from}
 use Rattle.st_unit_rules.specs.declared_names.Variables.{Written, sections_written, sections_in}
 use Rattle.st_unit_rules.specs.declared_names.WrittenTypes.{type_written}
 use Rattle.st_unit_rules.specs.Checked.{IsChecked, TypedInterface}
 use Rattle.st_unit_rules.specs.UnitRefusal.{BreaksNothing}
-use Rattle.st_values.specs.Program.{Class, Interface, class_at}
+use Rattle.st_values.specs.Program.{Interface}
 use Rattle.st_values.specs.View.{class_of, interfaces_from, program_of}
 use Rattle.st_meaning.specs.st_frame.Promise.Types.{IsHeld, IsNamed}
 use Rattle.resolution_order.specs.told_laws.ToldLaws.{Every}
@@ -48,7 +47,7 @@ use Rattle.accepted_texts.specs.told_units.Told.{AllIsTold}
 use Rattle.accepted_texts.proofs.unfolding_laws.ListLaws.{there_below, every_at, every_means, if_there, each_get}
 use Rattle.accepted_texts.proofs.unfolding_laws.DeclaredLaws.{variables_in_class}
 use Rattle.accepted_texts.proofs.unfolding_laws.ChainLaws.{class_seen}
-use Rattle.accepted_texts.proofs.unfolding_laws.NumberLaws.{IsClass, IsInterface, NumberedBy, NumberedWithin, Numbered, ToldNumbered, opened, element_numbered, written_numbered, unit_numbered}
+use Rattle.accepted_texts.proofs.unfolding_laws.NumberLaws.{IsClass, IsInterface, NumberedBy, NumberedWithin, Numbered, ToldNumbered, element_numbered, written_numbered, unit_numbered}
 use Rattle.accepted_texts.proofs.told_units.Inner.{AreRows, members-rows}
 use Rattle.scope_laws.proofs.Rows.{every_named}
 use Rattle.scope_laws.proofs.Fields.{field_shown}

@@ -1,5 +1,5 @@
 -- What a function or a method declares is what its text shows: its locals by their numbers, its parameters one by one, its result.
-use Rattle.std.proofs.Common.{◌≡◌, ◌≤◌, ℕ, zero, suc, ◌+◌, Bool, true, false, List, [], ◌∷◌, ◌++◌, length, Option, Some, None, refl, sym, ap, ◌∙◌, subst, arith}
+use Rattle.std.proofs.Common.{◌≡◌, ◌≤◌, ℕ, suc, ◌+◌, Bool, true, false, List, [], ◌∷◌, ◌++◌, length, Option, Some, None, refl, sym, ap, ◌∙◌, subst, arith}
 use Rattle.std.specs.Prelude.{if◌then◌else◌, not, ◌&&◌, filter, slice_get}
 use Rattle.std.specs.Option.{is_some}
 use Rattle.std.proofs.lemmas.List.Elements.{filter-append}
@@ -9,7 +9,6 @@ use Rattle.st_tree.specs.declared.declaration.Section.{Section}
 use Rattle.st_tree.specs.declared.declaration.SectionSort.{SectionSort}
 use Rattle.st_tree.specs.declared.declaration.SectionSort.TheVariants as sort
 use Rattle.st_tree.specs.declared.program.Note.{Note}
-use Rattle.st_tree.specs.declared.program.Target.TheVariants as target
 use Rattle.st_tree.specs.declared.type_spec.TypeSpec.{TypeSpec}
 use Rattle.st_tree.specs.Statement.{Statements}
 use Rattle.st_rules.specs.declared.names.DeclaredVariable.{DeclaredVariable}
@@ -19,23 +18,23 @@ use Rattle.st_rules.specs.Scope.{Scope, variable_named, is_external}
 use Rattle.st_rules.specs.Signatures.{is_parameter_sort}
 use Rattle.st_rules.proofs.Booleans.{none≢some, some-same, false≢true}
 use Rattle.st_unit_rules.specs.declared_names.UnitNames.{result_written}
-use Rattle.st_unit_rules.specs.declared_names.Variables.{Written, sections_written, is_parameter_written, declared_each, local_targets, result_declared, result_count, locals_declared, routine_locals}
+use Rattle.st_unit_rules.specs.declared_names.Variables.{Written, sections_written, is_parameter_written, result_declared, result_count, locals_declared, routine_locals}
 use Rattle.st_unit_rules.specs.declared_names.WrittenTypes.{type_written}
 use Rattle.st_unit_rules.specs.Checked.{Each, IfThere, TypedSpec, TypedSection}
 use Rattle.st_unit_rules.specs.DeclarationRules.{count_parameters}
-use Rattle.st_values.specs.Program.{Variable, to_local, Parameter, Routine, Program}
-use Rattle.st_values.specs.View.{kind_of, is_parameter, those, negated, variables_in, result_of, local_parameters, routine_of}
-use Rattle.st_meaning.specs.st_frame.Promise.Names.{Scope as Around, VariableIs, NameIs}
-use Rattle.st_meaning.specs.st_frame.Promise.Calls.{recipient_variable, ResultIs, most_parameters}
+use Rattle.st_values.specs.Program.{Variable, to_local, Routine, Program}
+use Rattle.st_values.specs.View.{is_parameter, those, negated, variables_in, result_of, local_parameters, routine_of}
+use Rattle.st_meaning.specs.st_frame.Promise.Names.{Scope as Around, NameIs}
+use Rattle.st_meaning.specs.st_frame.Promise.Calls.{most_parameters}
 use Rattle.resolution_order.specs.told_laws.ToldLaws.{Every}
 use Rattle.accepted_texts.specs.told_units.Told.{IsToldVariable}
 use Rattle.accepted_texts.proofs.unfolding_laws.ListLaws.{all_behind, behind_part, every_back, each_long}
 use Rattle.accepted_texts.proofs.unfolding_laws.ViewLaws.{kind_shown}
 use Rattle.accepted_texts.proofs.told_units.Inner.{IsRow, AreRows, locals-rows}
 use Rattle.accepted_texts.proofs.sized_units.Variables.{IsOf, is_variable, test_twice, all_of, those_of}
-use Rattle.place_laws.specs.Agrees.{Declares, Fills, FillsBy, TakesBy, Gives, ToldOutcome, HasPlace}
+use Rattle.place_laws.specs.Agrees.{Declares, FillsBy, TakesBy, Gives, ToldOutcome, HasPlace}
 use Rattle.place_laws.proofs.Places.{told_as}
-use Rattle.scope_laws.proofs.Rows.{From, from_behind, from_front, from_first, from_next, here, past, parameter_inside, no_parameter, inside_of, no_constant, no_external, SeenAt, Headed, headed, first_of, skipped, LocalRow, locals_seen, found_named}
+use Rattle.scope_laws.proofs.Rows.{From, from_behind, from_front, from_first, from_next, here, past, parameter_inside, no_parameter, inside_of, no_constant, no_external, Headed, first_of, skipped, LocalRow, locals_seen, found_named}
 use Rattle.scope_laws.proofs.Stands.{IsInside}
 
 and_false : (b : Bool) → (b && false) ≡ false

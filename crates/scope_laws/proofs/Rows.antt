@@ -1,5 +1,5 @@
 -- What is declared, one by one with what is written: where its number leads, among the variables that the checked program shows.
-use Rattle.std.proofs.Common.{◌≡◌, ℕ, zero, suc, ◌+◌, Bool, true, false, List, [], ◌∷◌, ◌++◌, Option, Some, None, refl, sym, ap, ◌∙◌, subst, arith}
+use Rattle.std.proofs.Common.{◌≡◌, ℕ, suc, ◌+◌, Bool, true, false, List, [], ◌∷◌, ◌++◌, Some, refl, sym, ap, ◌∙◌, subst, arith}
 use Rattle.std.specs.Prelude.{if◌then◌else◌, not, ◌&&◌, filter, slice_get}
 use Rattle.plc_text.specs.Words.{same}
 use Rattle.st_tree.specs.declared.declaration.SectionSort.{SectionSort}

@@ -1,23 +1,20 @@
 -- Where the text of a class, a method, a function or a program stands, the rules and the meaning agree on what names are.
-use Rattle.std.proofs.Common.{◌≡◌, ◌<◌, ℕ, zero, suc, pos, Bool, true, false, List, [], ◌∷◌, ◌++◌, length, reverse, Option, Some, None, refl, sym, ap, ◌∙◌, subst, inl, inr, nat_eq}
+use Rattle.std.proofs.Common.{◌≡◌, ℕ, zero, suc, Bool, true, false, List, [], ◌∷◌, length, reverse, Option, Some, None, refl, sym, ap, ◌∙◌, subst, inl, inr, nat_eq}
 use Rattle.std.specs.Prelude.{if◌then◌else◌, not, ◌&&◌, ◌||◌, filter, option_map, option_and_then, slice_get, IsTrue}
 use Rattle.std.specs.List.{list_any}
 use Rattle.std.specs.Option.{is_none, is_some}
 use Rattle.std.proofs.lemmas.Bool.{eq-eqb}
-use Rattle.std.proofs.lemmas.Option.{slice_get-map, slice_get_within}
+use Rattle.std.proofs.lemmas.Option.{slice_get-map}
 use Rattle.plc_text.specs.Words.{same}
 use Rattle.plc_text.specs.declared.code.Code.TheVariants.{E05, E10}
 use Rattle.st_types.specs.declared.st_type.StType.{StType}
 use Rattle.st_types.specs.declared.st_type.StType.TheVariants as type
 use Rattle.st_tree.specs.declared.declaration.ClassDecl.{ClassDecl}
-use Rattle.st_tree.specs.declared.declaration.FunctionDecl.{FunctionDecl}
 use Rattle.st_tree.specs.declared.declaration.InterfaceDecl.{InterfaceDecl}
 use Rattle.st_tree.specs.declared.declaration.SectionSort.{SectionSort}
 use Rattle.st_tree.specs.declared.declaration.SectionSort.TheVariants as sort
 use Rattle.st_tree.specs.declared.name.Used.{Used}
 use Rattle.st_tree.specs.declared.program.Program.{Program as Checked}
-use Rattle.st_tree.specs.declared.program.RegionDecl.{RegionDecl}
-use Rattle.st_tree.specs.declared.program.Target.{Target}
 use Rattle.st_tree.specs.declared.program.Target.TheVariants as target
 use Rattle.st_tree.specs.declared.unit.Decl.{Decl}
 use Rattle.st_rules.specs.declared.ids.MethodId.{MethodId}
@@ -26,21 +23,19 @@ use Rattle.st_rules.specs.declared.names.DeclaredGlobal.{DeclaredGlobal}
 use Rattle.st_rules.specs.declared.names.DeclaredGlobal.TheVariants as global
 use Rattle.st_rules.specs.declared.names.DeclaredType.{DeclaredType}
 use Rattle.st_rules.specs.declared.names.DeclaredVariable.{DeclaredVariable}
-use Rattle.st_rules.specs.declared.signature.ResultType.TheVariants as outcome
 use Rattle.st_rules.specs.Calls.{block_parameters, has_in_outs, is_in_out_sort}
 use Rattle.st_rules.specs.Chains.{is_among, nearest, ◌or_else◌, directly}
 use Rattle.st_rules.specs.Classes.{classes_in, base_of, chain, class_named, lookup}
 use Rattle.st_rules.specs.ClassRules.{class_faults}
 use Rattle.st_rules.specs.Expressions.{told}
 use Rattle.st_rules.specs.Interfaces.{interfaces_in, interface_lookup, own_prototype, prototype_names, prototype_id, prototype_within, first_with, has_prototype, extended, interfaces_named}
-use Rattle.st_rules.specs.Kinds.{is_assignable, is_bindable}
 use Rattle.st_rules.specs.Named.{first_place}
 use Rattle.st_rules.specs.Places.{Standing, untold, own_instance, no_base, is_told, super_standing, name_out_of_access, member_out_of_access, body_variable_in_a_method}
-use Rattle.st_rules.specs.Scope.{Scope, Meant, a_variable, a_function, an_enumerator, of_untold, qualifier_type, first_named, global_name, global_meaning, global_named, is_global_variable, is_external, is_instance_sort, is_body_sort, is_of_body, is_of_instance, is_inherited, variables_of, variable_named, type_named, of_class, own_entry, base_entry, class_entry, local_entry, entry, method_meaning, enumerator_meaning, only_enumerator, meaning_behind, sought, type_qualifier, dot_qualifier, value_of, field_named, instance_entry, instance_variable, is_block_at, value_named}
+use Rattle.st_rules.specs.Scope.{Scope, Meant, a_variable, a_function, an_enumerator, of_untold, qualifier_type, first_named, global_name, global_meaning, global_named, is_global_variable, is_external, is_instance_sort, is_body_sort, is_of_body, is_of_instance, is_inherited, variables_of, variable_named, type_named, of_class, own_entry, base_entry, class_entry, local_entry, entry, method_meaning, enumerator_meaning, only_enumerator, meaning_behind, sought, type_qualifier, dot_qualifier, instance_entry, instance_variable}
 use Rattle.st_rules.specs.Scope as rules
-use Rattle.st_rules.proofs.Booleans.{none≢some, some-same, true≢false, false≢true, either, neither, or-first, or-second}
+use Rattle.st_rules.proofs.Booleans.{none≢some, some-same, true≢false, false≢true, either, or-first, or-second}
 use Rattle.st_rules.proofs.ClassLaws.{bases_within, chain_law}
-use Rattle.st_unit_rules.specs.declared_names.Declarations.{functions_in, of_global}
+use Rattle.st_unit_rules.specs.declared_names.Declarations.{of_global}
 use Rattle.st_unit_rules.specs.declared_names.UnitNames.{unit_names, unit_scope, class_scope, class_declared}
 use Rattle.st_unit_rules.specs.declared_names.Variables as written
 use Rattle.st_unit_rules.specs.declared_names.Variables.{Written, sections_written}
@@ -50,11 +45,11 @@ use Rattle.st_unit_rules.specs.DeclarationRules.{signatures, base_not_found}
 use Rattle.st_unit_rules.specs.UnitRefusal.{BreaksNothing}
 use Rattle.st_unit_rules.specs.Worth.{same_worth}
 use Rattle.st_values.specs.Program as seen
-use Rattle.st_values.specs.Program.{Variable, Parameter, Routine, Class, class_at, class_variables, conforms, body_of}
+use Rattle.st_values.specs.Program.{Variable, Parameter, Routine, class_variables, conforms, body_of}
 use Rattle.st_values.specs.View.{is_of_body as of_body, those, declared_along, body_parameters, class_of, region_of, program_of}
 use Rattle.st_meaning.specs.Call.{is_in_out}
 use Rattle.st_meaning.specs.st_frame.Use.{a_method_of, the_function}
-use Rattle.st_meaning.specs.st_frame.Promise.Types.{NumberIs, Widens, Serves, same_place}
+use Rattle.st_meaning.specs.st_frame.Promise.Types.{Serves, same_place}
 use Rattle.st_meaning.specs.st_frame.Promise.Names.{Scope as Around, NameIs}
 use Rattle.st_meaning.specs.st_frame.Promise.Calls.{SameInOuts}
 use Rattle.resolution_order.specs.told_laws.ToldLaws.{Every}
@@ -69,7 +64,7 @@ use Rattle.accepted_texts.proofs.told_units.Whole.{class-rules}
 use Rattle.class_laws.proofs.Above.{NoCycle, variables_above, back}
 use Rattle.class_laws.proofs.Narrow as Narrow
 use Rattle.class_laws.proofs.Same.{assignable_same, bindable_same}
-use Rattle.place_laws.specs.Agrees.{Runs, ConstantIs, OneOf, HasPlace, EntryIs, MethodIs, PrototypeIs, MeantIs, FieldAgrees, MemberAgrees, Agrees, TakesBy}
+use Rattle.place_laws.specs.Agrees.{Runs, ConstantIs, OneOf, HasPlace, MethodIs, MeantIs, MemberAgrees, Agrees, TakesBy}
 use Rattle.place_laws.proofs.Places.{told_as}
 use Rattle.scope_laws.specs.Agreement.{HasNumbers, MeetsInterfaces}
 use Rattle.scope_laws.proofs.Blocks as Blocks

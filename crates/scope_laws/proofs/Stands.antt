@@ -1,5 +1,5 @@
 -- Where the functions, the interfaces and the classes of a unit stand among its declarations, and that they are formed.
-use Rattle.std.proofs.Common.{◌≡◌, ℕ, ◌+◌, Bool, true, false, List, [], ◌∷◌, ◌++◌, map, Option, Some, None, refl, sym, subst, arith}
+use Rattle.std.proofs.Common.{◌≡◌, ℕ, false, List, [], ◌∷◌, map, Some, refl, sym, subst}
 use Rattle.std.specs.Prelude.{flat_map, slice_get}
 use Rattle.st_tree.specs.declared.declaration.ClassDecl.{ClassDecl}
 use Rattle.st_tree.specs.declared.declaration.FunctionDecl.{FunctionDecl}
@@ -11,7 +11,6 @@ use Rattle.st_tree.specs.declared.declaration.Method.{Method}
 use Rattle.st_tree.specs.declared.declaration.ProgramDecl.{ProgramDecl}
 use Rattle.st_tree.specs.declared.declaration.Prototype.{Prototype}
 use Rattle.st_tree.specs.declared.declaration.Section.{Section}
-use Rattle.st_tree.specs.declared.name.Name.{Name}
 use Rattle.st_tree.specs.declared.unit.Decl.{Decl}
 use Rattle.st_tree.specs.declared.unit.Decl.TheVariants as declaration
 use Rattle.st_tree.specs.Declarations.{is_global}
@@ -21,10 +20,10 @@ use Rattle.st_unit_rules.specs.declared_names.Declarations.{Declaration, an_entr
 use Rattle.st_unit_rules.specs.declared_names.Variables.{Written, item_written, section_written, sections_written, sections_in}
 use Rattle.resolution_order.specs.told_laws.ToldLaws.{Every}
 use Rattle.accepted_texts.specs.formed_units.Formed as formed
-use Rattle.accepted_texts.specs.formed_units.Formed.{FormedItem, FormedVars, FormedMethod, FormedPrototype, FormedMember, FormedClass, FormedFunction, FormedProgram, FormedInterface, IsFormed}
+use Rattle.accepted_texts.specs.formed_units.Formed.{FormedVars, FormedMethod, FormedPrototype, FormedMember, FormedClass, IsFormed}
 use Rattle.accepted_texts.proofs.formed_texts.Units.{over, FormedPart, all_parts}
 use Rattle.accepted_texts.proofs.unfolding_laws.CycleLaws.{all_placed}
-use Rattle.accepted_texts.proofs.unfolding_laws.ListLaws.{every_append, every_back, every_at, every_from, every_map, every_mapped, every_joined, every_one}
+use Rattle.accepted_texts.proofs.unfolding_laws.ListLaws.{every_back, every_at, every_from, every_map, every_mapped, every_joined, every_one}
 use Rattle.accepted_texts.proofs.unfolding_laws.RegionLaws.{OfProgram, all_programs}
 use Rattle.accepted_texts.proofs.told_units.Whole.{ClassPlaced, classes-placed, numbered-at}
 

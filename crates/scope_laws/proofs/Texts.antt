@@ -1,5 +1,5 @@
 -- The routines of a unit that breaks no rule: what is asked of each is told, and methods of equal signature declare the same parameters.
-use Rattle.std.proofs.Common.{◌≡◌, ◌≤◌, ℕ, zero, suc, ◌+◌, Bool, true, false, List, [], ◌∷◌, ◌++◌, map, length, Option, Some, None, refl, sym, ap, ◌∙◌, subst, arith, ltb-false}
+use Rattle.std.proofs.Common.{◌≡◌, ◌≤◌, ℕ, ◌+◌, Bool, true, false, List, [], ◌∷◌, ◌++◌, map, length, Option, Some, None, refl, sym, ap, ◌∙◌, subst, arith, ltb-false}
 use Rattle.std.specs.Prelude.{if◌then◌else◌, not, ◌&&◌, nat_lt, filter, flat_map, option_and_then, option_map, slice_get}
 use Rattle.std.specs.Option.{is_some}
 use Rattle.std.proofs.lemmas.List.Elements.{filter-append}
@@ -40,10 +40,10 @@ use Rattle.st_rules.specs.Scope.{Scope, is_external, method_routine, prototype_r
 use Rattle.st_rules.specs.Signatures.{is_parameter_sort, parameter, section_parameters, result_type, signature, same_sort, same_if_told, same_result, same_parameter, same_parameters, same_signature, signature_of, prototype_signature}
 use Rattle.st_rules.specs.Statements.{body_faults}
 use Rattle.st_rules.specs.Types.{same_type}
-use Rattle.st_rules.proofs.Booleans.{none≢some, some-same, true≢false, false≢true, both}
+use Rattle.st_rules.proofs.Booleans.{false≢true, both}
 use Rattle.st_rules.proofs.TypeLaws.{type_decided}
-use Rattle.st_unit_rules.specs.declared_names.Declarations.{an_interface, a_function, functions_in}
-use Rattle.st_unit_rules.specs.declared_names.UnitNames.{unit_names, unit_scope, outer_scope, method_scope, function_scope, prototype_scope, result_written, routine_declared, method_declared, prototype_declared, class_declared, interface_declared, names_from}
+use Rattle.st_unit_rules.specs.declared_names.Declarations.{functions_in}
+use Rattle.st_unit_rules.specs.declared_names.UnitNames.{unit_names, unit_scope, outer_scope, method_scope, function_scope, prototype_scope, result_written, method_declared, prototype_declared, class_declared, interface_declared, names_from}
 use Rattle.st_unit_rules.specs.declared_names.Variables.{Written, item_written, section_written, sections_written, is_parameter_written, declares_constants, result_declared, result_count, locals_declared, routine_locals}
 use Rattle.st_unit_rules.specs.declared_names.WrittenTypes.{type_written}
 use Rattle.st_unit_rules.specs.Checked.{Each}
@@ -61,14 +61,13 @@ use Rattle.resolution_order.proofs.told_laws.Telling.{told_laws}
 use Rattle.accepted_texts.specs.formed_units.Formed.{IsFormed}
 use Rattle.accepted_texts.specs.told_units.Told.{IsToldVariable, WrittenIn, in_method, in_function, in_prototype, AllIsTold}
 use Rattle.accepted_texts.proofs.unfolding_laws.CycleLaws.{none_in, not_when}
-use Rattle.accepted_texts.proofs.unfolding_laws.ListLaws.{every_append, every_mapped, every_joined, every_one, numbered_get}
+use Rattle.accepted_texts.proofs.unfolding_laws.ListLaws.{every_mapped, every_joined, every_one, numbered_get}
 use Rattle.accepted_texts.proofs.told_units.Classes.{every-filtered}
-use Rattle.accepted_texts.proofs.told_units.Inner.{AreRows, IsRow, locals-rows}
+use Rattle.accepted_texts.proofs.told_units.Inner.{AreRows, locals-rows}
 use Rattle.accepted_texts.proofs.told_units.Law.{function-rules, method-rules, prototype-rules}
 use Rattle.accepted_texts.proofs.told_units.Whole.{class-rules}
 use Rattle.accepted_texts.proofs.sized_units.Variables.{each_append}
 use Rattle.class_laws.proofs.Signed.{sort_same}
-use Rattle.scope_laws.proofs.Routines.{told_there}
 use Rattle.scope_laws.proofs.Stands.{IsInside, sections_inside, function_stands, interface_stands, method_formed, prototype_formed}
 
 -- ---- what is asked of a text with its result and its sections
