@@ -1,6 +1,6 @@
 -- The parameters of a body are variables of its instance, which hold no instance, and its in-outs are locals.
-use Rattle.std.proofs.Common.{◌≡◌, ℕ, zero, suc, ◌+◌, Bool, true, false, List, [], ◌∷◌, ◌++◌, reverse, length, Option, Some, None, refl, sym, ap, ◌∙◌, subst, inl, inr, ◌⊎◌, arith}
-use Rattle.std.specs.Prelude.{◌&&◌, not, filter, slice_get, if◌then◌else◌}
+use Rattle.std.proofs.Common.{◌≡◌, ℕ, zero, suc, ◌+◌, true, false, List, [], ◌∷◌, ◌++◌, reverse, length, Option, Some, None, refl, sym, ap, ◌∙◌, subst, inl, inr, ◌⊎◌, arith}
+use Rattle.std.specs.Prelude.{filter, slice_get}
 use Rattle.std.proofs.lemmas.List.Elements.{filter-append}
 use Rattle.std.proofs.lemmas.Option.{slice_get_within}
 use Rattle.st_types.specs.declared.st_type.StType.{StType}
@@ -20,14 +20,14 @@ use Rattle.st_rules.specs.Kinds.{holds_instances, holds_instances-Instance}
 use Rattle.st_rules.specs.Scope.{Scope, is_external}
 use Rattle.st_rules.proofs.Booleans.{some-same, none≢some, true≢false, false≢true}
 use Rattle.st_unit_rules.specs.Checked.{Each as EachPair, TypedSection, TypedClass, TypedProgram, IsChecked}
-use Rattle.st_unit_rules.specs.declared_names.Declarations.{a_program, programs_in}
+use Rattle.st_unit_rules.specs.declared_names.Declarations.{a_program}
 use Rattle.st_unit_rules.specs.declared_names.UnitNames.{unit_names, class_scope, program_scope}
 use Rattle.st_unit_rules.specs.declared_names.Variables.{Written, sections_written, sections_in}
 use Rattle.st_unit_rules.specs.declared_names.WrittenTypes.{type_written}
 use Rattle.st_unit_rules.specs.DeclarationRules.{class_home}
 use Rattle.st_unit_rules.specs.UnitRefusal.{BreaksNothing}
 use Rattle.st_unit_rules.specs.VariableRules.{Home, of_program, may_hold_instances, holds_instances_told}
-use Rattle.st_values.specs.Program.{Variable, Recipient, to_local, to_variable, Parameter, Routine, Program, class_at, own_of, own_variables, class_variables, chain_of}
+use Rattle.st_values.specs.Program.{Variable, to_local, to_variable, Parameter, Program, class_at, own_of, own_variables, class_variables, chain_of}
 use Rattle.st_values.specs.View.{those, is_kept, is_of_body, is_parameter, sections_in as seen_sections, variables_in, body_parameters, body_routine, declared_by, declared_along, class_of, program_of}
 use Rattle.st_meaning.specs.Call.{is_in_out}
 use Rattle.st_meaning.specs.st_frame.Promise.Calls.{recipient_variable}

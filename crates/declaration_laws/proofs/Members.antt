@@ -1,5 +1,5 @@
 -- A name that means a variable of an instance means no other variable of it, those of its bases among them.
-use Rattle.std.proofs.Common.{◌≡◌, ◌≤◌, ◌<◌, ℕ, zero, suc, ◌+◌, Bool, true, false, List, [], ◌∷◌, ◌++◌, map, length, Option, Some, None, refl, sym, ap, ◌∙◌, subst, inl, inr, ◌⊎◌, nat_eq, arith}
+use Rattle.std.proofs.Common.{◌≡◌, ◌≤◌, ℕ, zero, suc, ◌+◌, Bool, true, false, List, [], ◌∷◌, map, length, Option, Some, None, refl, sym, ap, ◌∙◌, subst, inl, inr, ◌⊎◌, nat_eq, arith}
 use Rattle.std.specs.Prelude.{◌&&◌, ◌||◌, not, drop, flat_map, filter, option_map, option_and_then, slice_get, if◌then◌else◌}
 use Rattle.std.specs.List.{list_any}
 use Rattle.std.specs.Option.{is_some}
@@ -30,10 +30,10 @@ use Rattle.st_unit_rules.specs.Checked.{TypedClass, IsChecked}
 use Rattle.st_unit_rules.specs.declared_names.UnitNames.{unit_names, unit_scope, class_scope, class_declared, names_from}
 use Rattle.st_unit_rules.specs.declared_names.Variables.{Written, sections_written, sections_in, is_kept_written}
 use Rattle.st_unit_rules.specs.declared_names.WrittenTypes.{type_written}
-use Rattle.st_unit_rules.specs.NameRules.{is_named, texts, member_names, member_name_faults, space_faults, own_variables, of_class, of_bases, variable_texts, variable_of_base, method_named_as_variable}
+use Rattle.st_unit_rules.specs.NameRules.{is_named, member_names, member_name_faults, space_faults, own_variables, of_class, of_bases, variable_texts, variable_of_base}
 use Rattle.st_unit_rules.specs.UnitRefusal.{BreaksNothing}
-use Rattle.st_values.specs.Program.{Variable, Class, Program, class_at, own_of, class_variables, chain_of}
-use Rattle.st_values.specs.View.{sections_in as seen_sections, those, is_kept, variables_in, class_of, program_of}
+use Rattle.st_values.specs.Program.{Variable, Program, class_at, own_of, class_variables}
+use Rattle.st_values.specs.View.{sections_in as seen_sections, class_of, program_of}
 use Rattle.st_values.proofs.ShapeLaws.{mapped_some}
 use Rattle.st_meaning.specs.st_frame.Footprint.{Has}
 use Rattle.resolution_order.specs.told_laws.ToldLaws.{Every}
@@ -45,11 +45,11 @@ use Rattle.accepted_texts.proofs.told_units.Inner.{IsRow, AreRows, members-rows}
 use Rattle.accepted_texts.proofs.unfolding_laws.ChainLaws.{chain_same, chain_there, sections_typed, class_seen, variables_every}
 use Rattle.accepted_texts.proofs.unfolding_laws.CycleLaws.{none_in, none_of_each, not_when}
 use Rattle.accepted_texts.proofs.unfolding_laws.DeclaredLaws.{members_are}
-use Rattle.accepted_texts.proofs.unfolding_laws.ListLaws.{There, every_both, every_means, if_found, if_there, from_get}
+use Rattle.accepted_texts.proofs.unfolding_laws.ListLaws.{There, every_both, every_means, if_there, from_get}
 use Rattle.declaration_laws.specs.Given.{PartNamed}
 use Rattle.declaration_laws.proofs.Fields.{has_front, has_back, told_kind}
 use Rattle.declaration_laws.proofs.Items.{class_fine, on_no_cycle}
-use Rattle.declaration_laws.proofs.Names.{equal, same_self, Unique, space_unique, sections_unique, only_named}
+use Rattle.declaration_laws.proofs.Names.{equal, same_self, space_unique, sections_unique, only_named}
 use Rattle.declaration_laws.proofs.Parts.{kept_says}
 
 -- ---- lists

@@ -1,5 +1,5 @@
 -- No two declarations of a unit have one name, so that a class is found by its name; and each class conforms to itself.
-use Rattle.std.proofs.Common.{◌≡◌, ℕ, zero, suc, Bool, true, false, List, [], ◌∷◌, ◌++◌, map, Option, Some, None, refl, sym, ap, ◌∙◌, subst, inl, inr, nat_eq}
+use Rattle.std.proofs.Common.{◌≡◌, ℕ, zero, suc, Bool, true, false, List, [], ◌∷◌, ◌++◌, map, Some, refl, sym, ap, ◌∙◌, subst, inl, inr, nat_eq}
 use Rattle.std.specs.Prelude.{flat_map, option_map, slice_get, if◌then◌else◌}
 use Rattle.std.specs.List.{list_any}
 use Rattle.std.proofs.lemmas.Bool.{eq-eqb}
@@ -23,7 +23,7 @@ use Rattle.st_rules.specs.Named.{first_place}
 use Rattle.st_rules.proofs.Booleans.{neither, none≢some, some-same, or-first}
 use Rattle.st_rules.proofs.InterfaceLaws.{conforms_to_itself}
 use Rattle.st_unit_rules.specs.Checked.{Each, EachFrom, TypedClass, TypedProgram, IsChecked}
-use Rattle.st_unit_rules.specs.declared_names.Declarations.{Declaration, an_entry, a_global, an_interface, a_class, a_function, a_program, a_configuration, Global, Region, Placed, declarations_of, declarations, placed, place_each, placed_from, regions_of, instances_of, is_first_configuration, globals_of_item, globals_of_section, configuration_globals, name_of, names_put, programs_in}
+use Rattle.st_unit_rules.specs.declared_names.Declarations.{Declaration, an_entry, a_class, a_program, Region, Placed, declarations_of, declarations, placed, place_each, placed_from, regions_of, instances_of, is_first_configuration, globals_of_item, globals_of_section, configuration_globals, name_of, names_put, programs_in}
 use Rattle.st_unit_rules.specs.declared_names.Variables.{Written, item_written, section_written, sections_written}
 use Rattle.st_unit_rules.specs.NameRules.{is_named, declared_before}
 use Rattle.st_unit_rules.specs.UnitRefusal.{BreaksNothing, faults_of}
@@ -39,7 +39,7 @@ use Rattle.class_laws.proofs.Above.{at_number, conforms_class, back}
 use Rattle.declaration_laws.proofs.Fields.{has_front, has_back}
 use Rattle.declaration_laws.proofs.Members.{all_has, mapped_has}
 use Rattle.declaration_laws.proofs.Names.{same_self, not_turned, Differ, Unique}
-use Rattle.declaration_laws.proofs.Places.{OfSorts, sorts_from}
+use Rattle.declaration_laws.proofs.Places.{sorts_from}
 
 -- ---- each before those behind it
 

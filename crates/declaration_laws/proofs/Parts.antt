@@ -1,6 +1,6 @@
 -- What declarations say of each field of a structure and each variable that an instance keeps, said of every part of a type.
-use Rattle.std.proofs.Common.{◌≡◌, ℕ, zero, suc, ◌+◌, Bool, true, false, List, [], ◌∷◌, ◌++◌, reverse, length, Option, Some, None, refl, sym, ap, ◌∙◌, subst, inl, inr, arith}
-use Rattle.std.specs.Prelude.{◌&&◌, filter, option_map, slice_get, if◌then◌else◌}
+use Rattle.std.proofs.Common.{◌≡◌, ℕ, suc, ◌+◌, Bool, true, false, List, [], ◌∷◌, reverse, length, Option, Some, None, refl, sym, ap, ◌∙◌, subst, arith}
+use Rattle.std.specs.Prelude.{filter, option_map, slice_get, if◌then◌else◌}
 use Rattle.std.proofs.lemmas.Option.{slice_get-map}
 use Rattle.st_types.specs.declared.st_type.StType.{StType}
 use Rattle.st_types.specs.declared.st_type.StType.TheVariants as type
@@ -31,15 +31,14 @@ use Rattle.st_unit_rules.specs.declared_names.WrittenTypes.{type_written}
 use Rattle.st_unit_rules.specs.Initials.{typed_initial}
 use Rattle.st_values.specs.Program.{Variable, TypeEntry, Class, Program, class_at, own_of, own_variables, chain_of, class_variables}
 use Rattle.st_values.specs.Shape.{fields_of}
-use Rattle.st_values.specs.View.{kind_of, initial_in, those, is_kept, sections_in, variables_in, group_variables, groups_in, type_body, type_entry, class_of, classes_from, programs_from, program_of}
+use Rattle.st_values.specs.View.{kind_of, initial_in, those, is_kept, sections_in, variables_in, group_variables, groups_in, type_body, type_entry, classes_from, programs_from, program_of}
 use Rattle.st_values.proofs.ShapeLaws.{mapped_some}
-use Rattle.st_meaning.specs.st_frame.Footprint.{Has}
 use Rattle.resolution_order.specs.told_laws.ToldLaws.{Every}
 use Rattle.accepted_texts.proofs.sized_units.Outputs.{every_has}
 use Rattle.accepted_texts.proofs.sized_units.Variables.{IsOf, given_same, kept_of}
 use Rattle.accepted_texts.proofs.unfolding_laws.ChainLaws.{variables_every}
 use Rattle.accepted_texts.proofs.unfolding_laws.ViewLaws.{kind_shown}
-use Rattle.accepted_texts.proofs.unfolding_laws.ListLaws.{every_append, every_at, every_one, every_from, every_reversed, if_found, each_get, from_get}
+use Rattle.accepted_texts.proofs.unfolding_laws.ListLaws.{every_append, every_at, every_one, every_from, if_found, each_get, from_get}
 use Rattle.declaration_laws.specs.Given.{IsPart}
 
 -- ---- what an instance keeps, by what is written
