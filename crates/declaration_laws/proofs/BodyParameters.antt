@@ -170,8 +170,7 @@ module _ (p : Program) where
           let z : 0 + a.number ≡ a.number = omega arith in
           let to : q.to ≡ to_variable a.number = a.to ∙ ap to_variable z in
           let there : slice_get (class_variables p c) a.number ≡ Some a.variable = ap (λ us. slice_get us a.number) e ∙ a.there in
-          let f : Fine a.variable = every_at Fine (those is_kept vs) a.number a.variable (every_passing Fine (λ (v : Variable). is_kept v.sort) vs (every_means Fine (λ (v : Variable). is_kept v.sort ≡ true → Fine v) (λ v g i. g) vs h)) a.there in
-          (
+          let f : Fine a.variable = every_at Fine (those is_kept vs) a.number a.variable (every_passing Fine (λ (v : Variable). is_kept v.sort) vs (every_means Fine (λ (v : Variable). is_kept v.sort ≡ true → Fine v) (λ v g i. g) vs h)) a.there in (
             a.variable,
             ap (recipient_variable p (body_routine c name line vs body)) to ∙ there,
             a.sort_is,
@@ -180,8 +179,7 @@ module _ (p : Program) where
           )
       by q (inr a) =
           let z : 0 + a.number ≡ a.number = omega arith in
-          let to : q.to ≡ to_local a.number = a.to ∙ ap to_local z in
-          (
+          let to : q.to ≡ to_local a.number = a.to ∙ ap to_local z in (
             a.variable,
             ap (recipient_variable p (body_routine c name line vs body)) to ∙ a.there,
             a.sort_is,

@@ -142,8 +142,7 @@ module _ (pp : Program) (s : Scope) where
           let b = none_in (field_not_found l g ++ field_named_twice l before name ++ field_out_of_access s l g) (initial_faults s (given_type g) i) a.0 in
           let c = none_in (field_not_found l g ++ field_named_twice l before name) (field_out_of_access s l g) b.0 in
           let d = none_in (field_not_found l g) (field_named_twice l before name) c.0 in
-          let x = named t name l h d.0 in
-          (
+          let x = named t name l h d.0 in (
             x.0,
             x.2,
             subst (λ o. InitialIs pp x.0 (typed_initial s o i)) (sym x.1) (initial_is i x.0 n.1.0 (subst (λ o. initial_faults s o i ≡ []) x.1 b.1)),

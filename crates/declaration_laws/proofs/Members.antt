@@ -262,7 +262,7 @@ module _ (decls : List (Decl ℕ)) (good : BreaksNothing decls) where
       f.kind ∙ ap (λ (y : Written). type_written (class_scope decls (unit_names decls) c) y.item.kind) same_one
 
   step : (c : ℕ) (tail : List ℕ) → chain classes c ≡ c ∷ tail → ((name : List ℕ) (m : ℕ × DeclaredVariable) → instance_entry unit name c ≡ None → nearest (instance_entry unit name) (chain classes c) ≡ Some m → (b : ℕ) (x : ClassDecl ℕ) → is_among b tail ≡ true → slice_get classes b ≡ Some x
-          → (u : Written) → Has (written x) u → is_kept_written u ≡ true → u.name.text ≡ name → m.1.kind ≡ type_written (class_scope decls (unit_names decls) b) u.item.kind) → Means c
+      → (u : Written) → Has (written x) u → is_kept_written u ≡ true → u.name.text ≡ name → m.1.kind ≡ type_written (class_scope decls (unit_names decls) b) u.item.kind) → Means c
   step c tail q above name m e b x a f u h k n = by (variable_named name (filter is_of_instance (variables_of unit c))) refl
     where
       place : (b ≡ c) ⊎ (is_among b tail ≡ true)

@@ -81,11 +81,10 @@ each_keeps e b r (d ∷ ds) =
 
 each_follows : (e : List Declaration) (b : List (List ℕ)) (r : List Region) (ds : List Declaration) → Pairs Follows (place_each e b r ds)
 each_follows e b r [] = tt
-each_follows e b r (d ∷ ds) =
-    (
-      every_means (Keeps (b ++ text_of d ∷ [])) (λ y. Has y.before (text_of d)) (λ y k. k (text_of d) (has_back b (text_of d ∷ []) (text_of d) (inl refl))) (place_each (e ++ d ∷ []) (b ++ text_of d ∷ []) (r ++ regions_of d) ds) (each_keeps (e ++ d ∷ []) (b ++ text_of d ∷ []) (r ++ regions_of d) ds),
-      each_follows (e ++ d ∷ []) (b ++ text_of d ∷ []) (r ++ regions_of d) ds,
-    )
+each_follows e b r (d ∷ ds) = (
+  every_means (Keeps (b ++ text_of d ∷ [])) (λ y. Has y.before (text_of d)) (λ y k. k (text_of d) (has_back b (text_of d ∷ []) (text_of d) (inl refl))) (place_each (e ++ d ∷ []) (b ++ text_of d ∷ []) (r ++ regions_of d) ds) (each_keeps (e ++ d ∷ []) (b ++ text_of d ∷ []) (r ++ regions_of d) ds),
+  each_follows (e ++ d ∷ []) (b ++ text_of d ∷ []) (r ++ regions_of d) ds,
+)
 
 each_has : (Q : Declaration → Type 0) (e : List Declaration) (b : List (List ℕ)) (r : List Region) (ds : List Declaration) → Every Q ds → Every (λ (x : Placed). Q x.declaration) (place_each e b r ds)
 each_has Q e b r [] h = tt
@@ -134,10 +133,12 @@ puts (declaration.Function d) = (inl refl, tt)
 puts (declaration.Program d) = (inl refl, tt)
 puts (declaration.Configuration c) =
     let ws = sections_written (configuration_globals c) in
-    let ns = put (declaration.Configuration c) in
-    (inl refl, sections_put ns (configuration_globals c)
-    (every_means (λ (w : Written). Has ws w) (λ (w : Written). Has ns w.name.text)
-    (λ w h. inr (mapped_has (λ (n : Name). n.text) _ w.name (has_front (map (λ (w : Written). w.name) ws) _ w.name (mapped_has (λ (w : Written). w.name) ws w h)))) ws (all_has ws)))
+    let ns = put (declaration.Configuration c) in (
+      inl refl,
+      sections_put ns (configuration_globals c)
+          (every_means (λ (w : Written). Has ws w) (λ (w : Written). Has ns w.name.text)
+          (λ w h. inr (mapped_has (λ (n : Name). n.text) _ w.name (has_front (map (λ (w : Written). w.name) ws) _ w.name (mapped_has (λ (w : Written). w.name) ws w h)))) ws (all_has ws)),
+    )
 
 -- ---- all declarations
 
@@ -182,11 +183,10 @@ module _ (decls : List (Decl ℕ)) (good : BreaksNothing decls) where
 
   pairs_differ : (xs : List Placed) → Pairs Follows xs → Every NotBefore xs → Pairs (λ (x y : Placed). Differs x.declaration y.declaration) xs
   pairs_differ [] f n = tt
-  pairs_differ (x ∷ xs) f n =
-      (
-        every_both (Follows x) NotBefore (λ (y : Placed). Differs x.declaration y.declaration) (λ y a b. not_turned (text_of y.declaration) (text_of x.declaration) (none_same (text_of y.declaration) y.before (text_of x.declaration) b a)) xs f.0 n.1,
-        pairs_differ xs f.1 n.1,
-      )
+  pairs_differ (x ∷ xs) f n = (
+    every_both (Follows x) NotBefore (λ (y : Placed). Differs x.declaration y.declaration) (λ y a b. not_turned (text_of y.declaration) (text_of x.declaration) (none_same (text_of y.declaration) y.before (text_of x.declaration) b a)) xs f.0 n.1,
+    pairs_differ xs f.1 n.1,
+  )
 
   all_differ : Pairs Differs (declarations decls)
   unfolding placed
