@@ -1,11 +1,10 @@
 -- In a good unit that is formed no part of a type, and no region, has an instance of an abstract class.
-use Rattle.std.proofs.Common.{◌≡◌, ◌<◌, ℕ, zero, suc, ◌+◌, Bool, true, false, List, [], ◌∷◌, ◌++◌, length, Option, Some, None, refl, sym, ap, ◌∙◌, subst, inl, inr, ◌⊎◌, arith}
+use Rattle.std.proofs.Common.{◌≡◌, ℕ, ◌+◌, Bool, true, false, List, [], length, Option, Some, None, refl, sym, ap, ◌∙◌, subst, inl, inr, arith}
 use Rattle.std.specs.Prelude.{◌&&◌, not, option_map, option_and_then, slice_get}
 use Rattle.std.proofs.lemmas.Option.{slice_get-map, slice_get_within}
 use Rattle.plc_text.specs.declared.code.Code.TheVariants.{E07}
 use Rattle.st_types.specs.declared.st_type.StType.{StType}
 use Rattle.st_types.specs.declared.st_type.StType.TheVariants as type
-use Rattle.st_tree.specs.declared.configuration.Configuration.{Configuration}
 use Rattle.st_tree.specs.declared.configuration.InstanceSpec.{InstanceSpec}
 use Rattle.st_tree.specs.declared.declaration.ClassDecl.{ClassDecl}
 use Rattle.st_tree.specs.declared.declaration.FieldGroup.{FieldGroup}
@@ -25,15 +24,15 @@ use Rattle.st_rules.specs.Kinds.{holds_instances-Elementary}
 use Rattle.st_rules.specs.Modifiers.{is_abstract}
 use Rattle.st_rules.specs.Numbered.{passes_if_there}
 use Rattle.st_rules.specs.Scope.{Scope, is_instance_sort}
-use Rattle.st_rules.proofs.Booleans.{none≢some, some-same, both, false≢true}
-use Rattle.st_unit_rules.specs.Checked.{Each, TypedGroup, TypedClass, TypedProgram, TypedRegion, GlobalRegion, InstanceRegion, program_type, IsChecked, unit_regions}
-use Rattle.st_unit_rules.specs.declared_names.Declarations.{Declaration, an_entry, a_global, an_interface, a_class, a_function, a_program, a_configuration, Region, of_global, of_instance, Placed, declarations, entries_in, programs_in}
+use Rattle.st_rules.proofs.Booleans.{both, false≢true}
+use Rattle.st_unit_rules.specs.Checked.{TypedRegion, IsChecked, unit_regions}
+use Rattle.st_unit_rules.specs.declared_names.Declarations.{Declaration, an_entry, a_global, an_interface, a_class, a_function, a_program, a_configuration, Region, of_global, of_instance, declarations, entries_in, programs_in}
 use Rattle.st_unit_rules.specs.declared_names.UnitNames.{unit_names, unit_scope, class_scope, program_scope}
-use Rattle.st_unit_rules.specs.declared_names.Variables.{Written, declares_constants, sections_written, sections_in, is_kept_written}
+use Rattle.st_unit_rules.specs.declared_names.Variables.{Written, sections_written, sections_in, is_kept_written}
 use Rattle.st_unit_rules.specs.declared_names.WrittenTypes.{type_written, type_faults}
-use Rattle.st_unit_rules.specs.DeclarationRules.{class_home, group_faults, field_given, program_faults, type_body_faults}
+use Rattle.st_unit_rules.specs.DeclarationRules.{class_home, group_faults, field_given, type_body_faults}
 use Rattle.st_unit_rules.specs.UnitRefusal.{BreaksNothing}
-use Rattle.st_unit_rules.specs.VariableRules.{Home, of_class, of_block, of_program, of_routine, of_prototype, of_globals, may_hold_instances, holds_instances_told, instance_out_of_place, class_held, is_abstract_class, makes_instances}
+use Rattle.st_unit_rules.specs.VariableRules.{Home, of_class, of_block, of_program, of_routine, of_prototype, of_globals, may_hold_instances, holds_instances_told, class_held, is_abstract_class, makes_instances}
 use Rattle.st_values.specs.Program as seen
 use Rattle.st_values.specs.Program.{Variable, Program}
 use Rattle.st_values.specs.View.{sections_in as seen_sections, region_of, program_of}
@@ -44,10 +43,10 @@ use Rattle.accepted_texts.specs.formed_units.Formed.{IsFormed}
 use Rattle.accepted_texts.proofs.sized_units.Variables.{IsOf}
 use Rattle.accepted_texts.proofs.unfolding_laws.ChainLaws.{sections_typed}
 use Rattle.accepted_texts.proofs.unfolding_laws.CycleLaws.{none_in, none_of_each, not_when}
-use Rattle.accepted_texts.proofs.unfolding_laws.ListLaws.{every_at, every_both, every_means, every_one, if_found, each_get, from_long}
+use Rattle.accepted_texts.proofs.unfolding_laws.ListLaws.{every_at, every_both, every_one, if_found, each_get}
 use Rattle.accepted_texts.proofs.unfolding_laws.RegionLaws.{OfRegion, OfGlobal, each_program, all_regions}
 use Rattle.declaration_laws.specs.Given.{IsPart}
-use Rattle.declaration_laws.proofs.Items.{ItemFine, WrittenFine, ClassFine, class_fine, sections_fine, program_fine, global_fine}
+use Rattle.declaration_laws.proofs.Items.{ItemFine, WrittenFine, class_fine, sections_fine, program_fine, global_fine}
 use Rattle.declaration_laws.proofs.Living.{held-Instance, Lives, TypeLives, instance_lives}
 use Rattle.declaration_laws.proofs.Parts.{FieldOf, Says, groups_say, kept_says, parts_say}
 use Rattle.declaration_laws.proofs.Places.{IsGlobalSort, PlacedAt, all_at, rules_at, EntryFine, entries_fine, globals_are}

@@ -1,6 +1,6 @@
 -- The locals of the bodies of function blocks and programs unfold, begin in range and hold no instance.
-use Rattle.std.proofs.Common.{◌≡◌, ℕ, zero, suc, ◌+◌, Bool, true, false, List, [], ◌∷◌, ◌++◌, reverse, length, Option, Some, None, refl, sym, ap, ◌∙◌, subst, inl, inr, ◌⊎◌, arith}
-use Rattle.std.specs.Prelude.{◌&&◌, not, flat_map, filter, option_map, slice_get, if◌then◌else◌}
+use Rattle.std.proofs.Common.{◌≡◌, ℕ, ◌+◌, Bool, true, false, List, [], ◌∷◌, Option, Some, None, refl, sym, ap, ◌∙◌, subst, arith}
+use Rattle.std.specs.Prelude.{◌&&◌, not, flat_map, filter, slice_get}
 use Rattle.st_tree.specs.declared.declaration.ClassDecl.{ClassDecl}
 use Rattle.st_tree.specs.declared.declaration.ProgramDecl.{ProgramDecl}
 use Rattle.st_tree.specs.declared.declaration.Section.{Section}
@@ -10,13 +10,12 @@ use Rattle.st_tree.specs.declared.program.Note.{Note}
 use Rattle.st_tree.specs.declared.program.Program.{Program as Checked}
 use Rattle.st_tree.specs.declared.unit.Decl.{Decl}
 use Rattle.st_rules.specs.declared.names.DeclaredVariable.{DeclaredVariable}
-use Rattle.st_rules.specs.Classes.{classes_in, chain}
+use Rattle.st_rules.specs.Classes.{classes_in}
 use Rattle.st_rules.specs.Scope.{Scope, is_external, is_body_sort}
 use Rattle.st_rules.proofs.Booleans.{both, true≢false, false≢true}
 use Rattle.st_unit_rules.specs.Checked.{Each, TypedSection, TypedClass, TypedProgram, IsChecked}
-use Rattle.st_unit_rules.specs.Cycles.{inner_cycles}
-use Rattle.st_unit_rules.specs.declared_names.Declarations.{a_program, item_line, programs_in}
-use Rattle.st_unit_rules.specs.declared_names.UnitNames.{unit_names, unit_scope, class_scope, program_scope}
+use Rattle.st_unit_rules.specs.declared_names.Declarations.{a_program, item_line}
+use Rattle.st_unit_rules.specs.declared_names.UnitNames.{unit_names, program_scope}
 use Rattle.st_unit_rules.specs.declared_names.Variables.{Written, sections_written, sections_in, is_body_written}
 use Rattle.st_unit_rules.specs.DeclarationRules.{class_home, item_too_deep, program_limits}
 use Rattle.st_unit_rules.specs.UnitRefusal.{BreaksNothing}
@@ -27,7 +26,6 @@ use Rattle.st_meaning.specs.Call.{is_in_out}
 use Rattle.st_meaning.specs.st_frame.Promise.Declarations.{LocalIs}
 use Rattle.resolution_order.specs.told_laws.ToldLaws.{Every}
 use Rattle.accepted_texts.specs.formed_units.Formed.{IsFormed}
-use Rattle.accepted_texts.specs.told_units.Told.{in_program}
 use Rattle.accepted_texts.proofs.sized_units.Variables.{IsOf, is_variable, all_of}
 use Rattle.accepted_texts.proofs.told_units.Law.{program-rules}
 use Rattle.accepted_texts.proofs.unfolding_laws.ChainLaws.{sections_typed}
@@ -36,7 +34,7 @@ use Rattle.accepted_texts.proofs.unfolding_laws.ListLaws.{every_append, every_bo
 use Rattle.declaration_laws.proofs.Initials.{Knows}
 use Rattle.declaration_laws.proofs.Items.{class_fine}
 use Rattle.declaration_laws.proofs.Knowing.{inside, Facts, class_knows, program_knows, class_says, program_says}
-use Rattle.declaration_laws.proofs.Locals.{Shallow, local_is, temp_closed}
+use Rattle.declaration_laws.proofs.Locals.{local_is, temp_closed}
 use Rattle.declaration_laws.proofs.Places.{PlacedAt}
 
 body_sorts : (so : SectionSort) → is_of_body so ≡ is_body_sort so

@@ -1,6 +1,6 @@
 -- The parameters of a body are variables of its instance, which hold no instance, and its in-outs are locals.
-use Rattle.std.proofs.Common.{◌≡◌, ℕ, zero, suc, ◌+◌, Bool, true, false, List, [], ◌∷◌, ◌++◌, reverse, length, Option, Some, None, refl, sym, ap, ◌∙◌, subst, inl, inr, ◌⊎◌, arith}
-use Rattle.std.specs.Prelude.{◌&&◌, not, filter, slice_get, if◌then◌else◌}
+use Rattle.std.proofs.Common.{◌≡◌, ℕ, zero, suc, ◌+◌, true, false, List, [], ◌∷◌, ◌++◌, reverse, length, Option, Some, None, refl, sym, ap, ◌∙◌, subst, inl, inr, ◌⊎◌, arith}
+use Rattle.std.specs.Prelude.{filter, slice_get}
 use Rattle.std.proofs.lemmas.List.Elements.{filter-append}
 use Rattle.std.proofs.lemmas.Option.{slice_get_within}
 use Rattle.st_types.specs.declared.st_type.StType.{StType}
@@ -20,14 +20,14 @@ use Rattle.st_rules.specs.Kinds.{holds_instances, holds_instances-Instance}
 use Rattle.st_rules.specs.Scope.{Scope, is_external}
 use Rattle.st_rules.proofs.Booleans.{some-same, none≢some, true≢false, false≢true}
 use Rattle.st_unit_rules.specs.Checked.{Each as EachPair, TypedSection, TypedClass, TypedProgram, IsChecked}
-use Rattle.st_unit_rules.specs.declared_names.Declarations.{a_program, programs_in}
+use Rattle.st_unit_rules.specs.declared_names.Declarations.{a_program}
 use Rattle.st_unit_rules.specs.declared_names.UnitNames.{unit_names, class_scope, program_scope}
 use Rattle.st_unit_rules.specs.declared_names.Variables.{Written, sections_written, sections_in}
 use Rattle.st_unit_rules.specs.declared_names.WrittenTypes.{type_written}
 use Rattle.st_unit_rules.specs.DeclarationRules.{class_home}
 use Rattle.st_unit_rules.specs.UnitRefusal.{BreaksNothing}
 use Rattle.st_unit_rules.specs.VariableRules.{Home, of_program, may_hold_instances, holds_instances_told}
-use Rattle.st_values.specs.Program.{Variable, Recipient, to_local, to_variable, Parameter, Routine, Program, class_at, own_of, own_variables, class_variables, chain_of}
+use Rattle.st_values.specs.Program.{Variable, to_local, to_variable, Parameter, Program, class_at, own_of, own_variables, class_variables, chain_of}
 use Rattle.st_values.specs.View.{those, is_kept, is_of_body, is_parameter, sections_in as seen_sections, variables_in, body_parameters, body_routine, declared_by, declared_along, class_of, program_of}
 use Rattle.st_meaning.specs.Call.{is_in_out}
 use Rattle.st_meaning.specs.st_frame.Promise.Calls.{recipient_variable}
@@ -170,8 +170,7 @@ module _ (p : Program) where
           let z : 0 + a.number ≡ a.number = omega arith in
           let to : q.to ≡ to_variable a.number = a.to ∙ ap to_variable z in
           let there : slice_get (class_variables p c) a.number ≡ Some a.variable = ap (λ us. slice_get us a.number) e ∙ a.there in
-          let f : Fine a.variable = every_at Fine (those is_kept vs) a.number a.variable (every_passing Fine (λ (v : Variable). is_kept v.sort) vs (every_means Fine (λ (v : Variable). is_kept v.sort ≡ true → Fine v) (λ v g i. g) vs h)) a.there in
-          (
+          let f : Fine a.variable = every_at Fine (those is_kept vs) a.number a.variable (every_passing Fine (λ (v : Variable). is_kept v.sort) vs (every_means Fine (λ (v : Variable). is_kept v.sort ≡ true → Fine v) (λ v g i. g) vs h)) a.there in (
             a.variable,
             ap (recipient_variable p (body_routine c name line vs body)) to ∙ there,
             a.sort_is,
@@ -180,8 +179,7 @@ module _ (p : Program) where
           )
       by q (inr a) =
           let z : 0 + a.number ≡ a.number = omega arith in
-          let to : q.to ≡ to_local a.number = a.to ∙ ap to_local z in
-          (
+          let to : q.to ≡ to_local a.number = a.to ∙ ap to_local z in (
             a.variable,
             ap (recipient_variable p (body_routine c name line vs body)) to ∙ a.there,
             a.sort_is,

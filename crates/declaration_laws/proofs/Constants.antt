@@ -1,5 +1,5 @@
 -- A constant expression whose names are all told and that breaks no rule has a type, and comes to a number of it.
-use Rattle.std.proofs.Common.{◌≡◌, ℕ, ℤ, Bool, true, false, List, [], ◌++◌, Option, Some, None, refl, sym, ap, ◌∙◌, subst, arith}
+use Rattle.std.proofs.Common.{◌≡◌, ℕ, Bool, true, false, List, [], ◌++◌, Option, Some, None, refl, sym, ap, ◌∙◌, subst, arith}
 use Rattle.std.specs.Prelude.{pos, if◌then◌else◌, ◌&&◌, option_map}
 use Rattle.std.specs.Option.{is_some}
 use Rattle.plc_num.specs.Arithmetic.{difference}
@@ -16,7 +16,6 @@ use Rattle.st_tree.specs.declared.program.Target.{Target}
 use Rattle.st_tree.specs.declared.program.Target.TheVariants as target
 use Rattle.st_tree.specs.Duration.{milliseconds}
 use Rattle.st_tree.specs.Expression.{Expression, Int, Typed, Time, True, False, Null, Place, Call, Enumerator, Ref, Now, Paren, Not, Negate, Chain, Field, Selectors, no_selectors, selector_then, Arguments, Tails, no_tails, tail_then}
-use Rattle.st_tree.specs.Number.{number_of}
 use Rattle.st_rules.specs.declared.asked.Asked.{Asked}
 use Rattle.st_rules.specs.declared.asked.Asked.TheVariants.{Anything, Wanted, Untold}
 use Rattle.st_rules.specs.declared.names.DeclaredVariable.{DeclaredVariable}
@@ -26,8 +25,8 @@ use Rattle.st_rules.specs.Scope.{Scope, Meant, a_variable, a_function, an_enumer
 use Rattle.st_rules.specs.Scope as scope
 use Rattle.st_rules.specs.Places.{a_value_of, part_type, root_standing, placed, selected, standing_of, standing_type, meant_type, qualified_standing, part_of, place_type}
 use Rattle.st_rules.specs.Calls.{value_unsuited, a_conversion, callee, call_type, heads, first_match, asked_by, call_matches}
-use Rattle.st_rules.specs.Expressions.{too_many_operators, line_of, is_untyped, front_asked, operand_asked, asked_behind, type_of, row_type, row_unsuited, unsuited_line, operand_unsuited, operands_unsuited, faults, row_faults, whole_target, qualified_target, value_target, part_target, note_of_value, enumerator_type, value_type, enumerator_target}
-use Rattle.st_unit_rules.specs.declared_names.Constants.{Outcome, comes_to, cannot_be_told, is_told, if_none, told_value, value_faults, constant_faults, zero_divisor, operated, outcome_map, kind_in, constant_value, row_value, operand_value, converted_value, target_value, names_are_told, operands_are_told, no_constant_part, no_constant_operand, no_constant_argument}
+use Rattle.st_rules.specs.Expressions.{line_of, is_untyped, front_asked, operand_asked, asked_behind, type_of, row_type, row_unsuited, unsuited_line, operand_unsuited, faults, row_faults, whole_target, qualified_target, value_target, part_target, note_of_value, enumerator_type, value_type, enumerator_target}
+use Rattle.st_unit_rules.specs.declared_names.Constants.{Outcome, comes_to, is_told, value_faults, zero_divisor, operated, outcome_map, kind_in, constant_value, row_value, operand_value, converted_value, target_value, names_are_told, operands_are_told, no_constant_part, no_constant_operand, no_constant_argument}
 use Rattle.st_values.specs.Program.{Program}
 use Rattle.st_meaning.specs.st_frame.Promise.Types.{NumberIs}
 use Rattle.st_meaning.proofs.st_frame.OfTypes.{wraps_fit, bit_fits, converted_fits}
@@ -35,7 +34,6 @@ use Rattle.accepted_texts.proofs.told_units.TypeLaws.{HasItsType, ValuesHaveType
 use Rattle.place_laws.specs.Agrees.{ConstantIs}
 use Rattle.place_laws.proofs.Operators.{operation}
 use Rattle.place_laws.proofs.Literals.{AsksForTold as AsksLiteral, int_is, negative_is, typed_is, time_is, null_held}
-use Rattle.declaration_laws.specs.Given.{NumberOf}
 use Rattle.declaration_laws.proofs.Numbers.{OutcomeOf, Right, number_of_type, literal_fits, literal_right, typed_right, lasting, held, unary, operated_of, assigned_number}
 
 there : (o : Option StType) → is_some o ≡ true → (t : StType) × (o ≡ Some t)

@@ -1,5 +1,5 @@
 -- A name that means a field of a structure means no other field.
-use Rattle.std.proofs.Common.{◌≡◌, ℕ, zero, suc, Bool, true, false, List, [], ◌∷◌, ◌++◌, map, Option, Some, None, refl, sym, ap, ◌∙◌, subst, inl, inr, ◌⊎◌}
+use Rattle.std.proofs.Common.{◌≡◌, ℕ, suc, Bool, true, false, List, [], ◌∷◌, ◌++◌, map, Option, Some, None, refl, sym, ap, ◌∙◌, subst, inl, inr, ◌⊎◌}
 use Rattle.std.specs.Prelude.{flat_map, option_map, slice_get, if◌then◌else◌}
 use Rattle.std.specs.Option.{is_some}
 use Rattle.std.proofs.lemmas.List.{map-append}
@@ -20,7 +20,7 @@ use Rattle.st_rules.specs.declared.names.DeclaredNames.{DeclaredNames}
 use Rattle.st_rules.specs.declared.names.TypeParts.{TypeParts}
 use Rattle.st_rules.specs.declared.names.TypeParts.TheVariants as parts
 use Rattle.st_rules.specs.Expressions.{told}
-use Rattle.st_rules.specs.Scope.{Scope, field_from, field_list, field_named, parts_of}
+use Rattle.st_rules.specs.Scope.{Scope, field_from, field_list, field_named}
 use Rattle.st_rules.proofs.Booleans.{none≢some, some-same}
 use Rattle.st_unit_rules.specs.Checked.{Each, TypedGroup, TypedEntry, TypedTypeBody, IsChecked}
 use Rattle.st_unit_rules.specs.declared_names.Declarations.{entries_in}
@@ -39,7 +39,7 @@ use Rattle.accepted_texts.proofs.unfolding_laws.ListLaws.{every_at, every_joined
 use Rattle.accepted_texts.proofs.sized_units.Kept.{PartsAreTold}
 use Rattle.accepted_texts.proofs.sized_units.Outputs.{every_has}
 use Rattle.accepted_texts.proofs.unfolding_laws.ViewLaws.{kind_shown}
-use Rattle.declaration_laws.specs.Given.{IsPart, PartNamed}
+use Rattle.declaration_laws.specs.Given.{PartNamed}
 use Rattle.declaration_laws.proofs.Names.{equal, Unique, space_unique, only_named}
 use Rattle.declaration_laws.proofs.Places.{EntryFine, entries_fine}
 
@@ -63,11 +63,11 @@ has_either (z ∷ xs) ys x (inr h) = elim (has_either xs ys x h) [
 -- the field that a name means is one of them, and has the name
 found_field : (k : ℕ) (name : List ℕ) (fs : List DeclaredField) (f : ℕ × DeclaredField) → field_from k name fs ≡ Some f → Has fs f.1 × (same f.1.name name ≡ true)
 found_field k name [] f e = absurd (none≢some e)
-found_field k name (x ∷ fs) f e = by (same x.name name) refl e
+found_field k name (x ∷ fs) f e = by (same x.name name) refl e (found_field (suc k) name fs f)
   where
-    by : (b : Bool) → same x.name name ≡ b → (if b then Some (k, x) else field_from (suc k) name fs) ≡ Some f → Has (x ∷ fs) f.1 × (same f.1.name name ≡ true)
-    by true q g = let w : (k, x) ≡ f = some-same g in (inl (ap (λ (z : ℕ × DeclaredField). z.1) (sym w)), ap (λ (z : ℕ × DeclaredField). same z.1.name name) (sym w) ∙ q)
-    by false q g = let r = found_field (suc k) name fs f g in (inr r.0, r.1)
+    by : (b : Bool) → same x.name name ≡ b → (if b then Some (k, x) else field_from (suc k) name fs) ≡ Some f → (field_from (suc k) name fs ≡ Some f → Has fs f.1 × (same f.1.name name ≡ true)) → Has (x ∷ fs) f.1 × (same f.1.name name ≡ true)
+    by true q g h = let w : (k, x) ≡ f = some-same g in (inl (ap (λ (z : ℕ × DeclaredField). z.1) (sym w)), ap (λ (z : ℕ × DeclaredField). same z.1.name name) (sym w) ∙ q)
+    by false q g h = let r = h g in (inr r.0, r.1)
 
 module _ (decls : List (Decl ℕ)) where
   abbrev unit : Scope

@@ -1,8 +1,7 @@
 -- A class that has an instance has a method of equal signature for each method of an interface to which it conforms.
-use Rattle.std.proofs.Common.{◌≡◌, ℕ, zero, suc, ◌+◌, Bool, true, false, List, [], ◌∷◌, ◌++◌, map, length, Option, Some, None, refl, sym, ap, ◌∙◌, subst, inl, inr, nat_eq, arith}
+use Rattle.std.proofs.Common.{◌≡◌, ℕ, zero, suc, ◌+◌, Bool, true, false, List, [], ◌∷◌, length, Option, Some, None, refl, sym, ap, ◌∙◌, subst, inl, inr, nat_eq, arith}
 use Rattle.std.specs.Prelude.{◌&&◌, ◌||◌, not, option_map, option_and_then, slice_get, if◌then◌else◌}
 use Rattle.std.proofs.lemmas.Bool.{eq-eqb}
-use Rattle.plc_text.specs.Words.{same}
 use Rattle.plc_text.specs.declared.code.Code.TheVariants.{E11}
 use Rattle.st_types.specs.declared.st_type.StType.TheVariants as type
 use Rattle.st_tree.specs.declared.declaration.ClassDecl.{ClassDecl}
@@ -12,7 +11,7 @@ use Rattle.st_tree.specs.declared.program.Program.{Program as Checked}
 use Rattle.st_tree.specs.declared.unit.Decl.{Decl}
 use Rattle.st_rules.specs.declared.ids.MethodId.{MethodId}
 use Rattle.st_rules.specs.declared.ids.PrototypeId.{PrototypeId}
-use Rattle.st_rules.specs.Chains.{◌or_else◌, is_among, Leads, itself, onward}
+use Rattle.st_rules.specs.Chains.{◌or_else◌, is_among, itself, onward}
 use Rattle.st_rules.specs.Classes.{classes_in, lookup}
 use Rattle.st_rules.specs.InterfaceRules.{abstract_method_left, if_public, is_public, target, is_met, leaves_method, interface_not_met, concrete_class_faults_of}
 use Rattle.st_rules.specs.Interfaces.{interfaces_in, extended, extends, conforms, prototype_names, prototype_id, own_prototype, has_prototype, first_with, prototype_within, interface_lookup, prototype_at}

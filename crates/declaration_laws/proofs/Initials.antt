@@ -1,6 +1,6 @@
 -- What is given as an initial value and breaks no rule is one of its type.
-use Rattle.std.proofs.Common.{◌≡◌, ℕ, ℤ, Bool, true, false, List, [], ◌∷◌, ◌++◌, Option, Some, None, refl, sym, ap, ◌∙◌, subst}
-use Rattle.std.specs.Prelude.{option_map, slice_get, if◌then◌else◌}
+use Rattle.std.proofs.Common.{◌≡◌, ℕ, true, false, List, [], ◌∷◌, ◌++◌, Option, Some, None, refl, sym, ap, ◌∙◌, subst}
+use Rattle.std.specs.Prelude.{if◌then◌else◌}
 use Rattle.std.specs.Option.{is_some}
 use Rattle.st_types.specs.declared.st_type.StType.{StType, out-StType}
 use Rattle.st_types.specs.declared.st_type.StType.TheVariants as type
@@ -17,16 +17,16 @@ use Rattle.st_rules.specs.Expressions.{faults, typed}
 use Rattle.st_rules.specs.Kinds.{element_at_level}
 use Rattle.st_rules.specs.Literals.{asked_of, past_64_bits}
 use Rattle.st_rules.specs.Scope.{Scope, field_named, instance_variable}
-use Rattle.st_rules.proofs.Booleans.{none≢some, true≢false, false≢true}
+use Rattle.st_rules.proofs.Booleans.{true≢false, false≢true}
 use Rattle.st_unit_rules.specs.declared_names.Constants.{Outcome, comes_to, divides_by_zero, cannot_be_told, constant_value, constant_faults, value_faults, told_value, if_none, names_are_told, no_constant_part}
-use Rattle.st_unit_rules.specs.Initials.{count_parts, element_at, element_given, is_no_array, has_no_fields, list_of_no_array, more_values_than_elements, list_of_no_fields, Given, given_type, field_not_found, field_named_twice, field_out_of_access, outcome_target, with_note, of_structure, of_instance, given_by, initial_faults, part_faults, given_faults, typed_constant, typed_initial, typed_parts, typed_fields}
+use Rattle.st_unit_rules.specs.Initials.{count_parts, element_at, element_given, is_no_array, has_no_fields, list_of_no_array, more_values_than_elements, list_of_no_fields, given_type, field_not_found, field_named_twice, field_out_of_access, outcome_target, with_note, of_structure, of_instance, given_by, initial_faults, part_faults, given_faults, typed_constant, typed_initial, typed_parts, typed_fields}
 use Rattle.st_values.specs.Initial.{note_of, constant}
 use Rattle.st_values.specs.Program.{Program}
 use Rattle.accepted_texts.specs.formed_units.Formed.{FormedInitial, FormedParts, FormedFields}
 use Rattle.accepted_texts.specs.told_units.Formed.{HasNames}
 use Rattle.accepted_texts.proofs.formed_texts.Units.{has_names}
 use Rattle.accepted_texts.proofs.told_units.TypeLaws.{ValuesHaveTypes, holds-not}
-use Rattle.accepted_texts.proofs.told_units.Value.{BreaksNone, breaks-none, comes-to}
+use Rattle.accepted_texts.proofs.told_units.Value.{breaks-none, comes-to}
 use Rattle.accepted_texts.proofs.unfolding_laws.CycleLaws.{none_in}
 use Rattle.declaration_laws.specs.Given.{NumberOf, PartNamed, InitialIs, PartsAre, FieldsAre}
 use Rattle.declaration_laws.proofs.Numbers.{OutcomeOf}
@@ -142,8 +142,7 @@ module _ (pp : Program) (s : Scope) where
           let b = none_in (field_not_found l g ++ field_named_twice l before name ++ field_out_of_access s l g) (initial_faults s (given_type g) i) a.0 in
           let c = none_in (field_not_found l g ++ field_named_twice l before name) (field_out_of_access s l g) b.0 in
           let d = none_in (field_not_found l g) (field_named_twice l before name) c.0 in
-          let x = named t name l h d.0 in
-          (
+          let x = named t name l h d.0 in (
             x.0,
             x.2,
             subst (λ o. InitialIs pp x.0 (typed_initial s o i)) (sym x.1) (initial_is i x.0 n.1.0 (subst (λ o. initial_faults s o i ≡ []) x.1 b.1)),

@@ -1,34 +1,29 @@
 -- What the rules say of each variable that sections declare, and of a class part by part.
-use Rattle.std.proofs.Common.{◌≡◌, ℕ, Bool, true, false, List, [], ◌∷◌, ◌++◌, Option, Some, None, refl, sym, ap, ◌∙◌, subst}
+use Rattle.std.proofs.Common.{◌≡◌, ℕ, true, false, List, [], ◌++◌, Option, Some, None, refl, sym, ap, ◌∙◌}
 use Rattle.std.specs.Prelude.{not, ◌&&◌, flat_map, option_map, option_and_then, filter, slice_get, if◌then◌else◌}
 use Rattle.plc_text.specs.declared.code.Code.TheVariants.{E06, E07, E11}
 use Rattle.st_tree.specs.declared.declaration.ClassDecl.{ClassDecl}
-use Rattle.st_tree.specs.declared.declaration.FunctionDecl.{FunctionDecl}
 use Rattle.st_tree.specs.declared.declaration.Item.{Item}
-use Rattle.st_tree.specs.declared.declaration.Method.{Method}
 use Rattle.st_tree.specs.declared.declaration.ProgramDecl.{ProgramDecl}
 use Rattle.st_tree.specs.declared.declaration.Section.{Section}
 use Rattle.st_tree.specs.declared.declaration.SectionSort.{SectionSort}
-use Rattle.st_tree.specs.declared.declaration.SectionSort.TheVariants as sort
 use Rattle.st_tree.specs.declared.name.Used.{Used}
 use Rattle.st_tree.specs.declared.unit.Decl.{Decl}
 use Rattle.st_tree.specs.Declarations.{is_global}
 use Rattle.st_tree.specs.Initial.{initial_of}
 use Rattle.st_rules.specs.Chains.{is_among}
 use Rattle.st_rules.specs.Classes.{class_named, classes_in, methods_in, base_of, chain}
-use Rattle.st_rules.specs.ClassRules.{class_faults, class_faults_of, base_faults, lies_on_cycle, cycle_of_bases, final_base, class_extends_block, block_with_in_outs_extends_block, method_faults as class_method_faults}
-use Rattle.st_rules.specs.Faults.{Faults}
+use Rattle.st_rules.specs.ClassRules.{class_faults, class_faults_of, base_faults, lies_on_cycle, cycle_of_bases}
 use Rattle.st_rules.specs.InterfaceRules.{concrete_class_faults}
 use Rattle.st_rules.specs.Interfaces.{interfaces_in}
-use Rattle.st_rules.specs.Numbered.{passes_if_there, each_numbered}
+use Rattle.st_rules.specs.Numbered.{passes_if_there}
 use Rattle.st_rules.specs.Scope.{Scope, is_external}
-use Rattle.st_rules.proofs.Booleans.{none≢some}
 use Rattle.st_unit_rules.specs.Checked.{IsChecked}
 use Rattle.st_unit_rules.specs.declared_names.Declarations.{Region, Global, item_line}
 use Rattle.st_unit_rules.specs.declared_names.UnitNames.{unit_names, unit_scope, class_scope, program_scope}
 use Rattle.st_unit_rules.specs.declared_names.Variables.{Written, declares_constants, is_body_written, item_written, section_written, sections_written, sections_in}
 use Rattle.st_unit_rules.specs.declared_names.WrittenTypes.{type_written, type_faults}
-use Rattle.st_unit_rules.specs.DeclarationRules.{signatures, class_home, class_declaration_faults, class_limits, method_faults, program_faults, program_limits, global_faults, item_too_deep}
+use Rattle.st_unit_rules.specs.DeclarationRules.{signatures, class_home, class_limits, method_faults, program_faults, program_limits, global_faults, item_too_deep}
 use Rattle.st_unit_rules.specs.NameRules.{member_name_faults}
 use Rattle.st_unit_rules.specs.Cycles.{inner_cycles}
 use Rattle.st_unit_rules.specs.UnitRefusal.{BreaksNothing}
@@ -158,7 +153,7 @@ module _ (decls : List (Decl ℕ)) (good : BreaksNothing decls) where
 
   -- ---- no class is its own base
 
-  on_no_cycle : (c : ℕ) → lies_on_cycle (classes_in decls) c ≡ false
+  pub on_no_cycle : (c : ℕ) → lies_on_cycle (classes_in decls) c ≡ false
   on_no_cycle c = by (slice_get (classes_in decls) c) refl
     where
       by : (o : Option (ClassDecl ℕ)) → slice_get (classes_in decls) c ≡ o → lies_on_cycle (classes_in decls) c ≡ false

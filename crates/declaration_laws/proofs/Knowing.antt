@@ -1,10 +1,9 @@
 -- In each scope of a good unit that is formed all is known that initial values rest on, and all that declarations give is of its type.
-use Rattle.std.proofs.Common.{◌≡◌, ◌≤◌, ℕ, Bool, true, false, List, [], ◌∷◌, ◌++◌, map, Option, Some, None, refl, sym, ap, ◌∙◌, subst}
+use Rattle.std.proofs.Common.{◌≡◌, ℕ, Bool, true, false, List, [], ◌∷◌, ◌++◌, Option, Some, None, refl, sym, ap, ◌∙◌, subst}
 use Rattle.std.specs.Prelude.{filter, option_map, slice_get, if◌then◌else◌}
 use Rattle.std.specs.Option.{is_some}
 use Rattle.plc_text.specs.Words.{same}
 use Rattle.st_types.specs.declared.st_type.StType.{StType}
-use Rattle.st_types.specs.declared.st_type.StType.TheVariants as type
 use Rattle.st_tree.specs.declared.declaration.ClassDecl.{ClassDecl}
 use Rattle.st_tree.specs.declared.declaration.FieldGroup.{FieldGroup}
 use Rattle.st_tree.specs.declared.declaration.ProgramDecl.{ProgramDecl}
@@ -18,26 +17,22 @@ use Rattle.st_tree.specs.declared.program.Note.{Note}
 use Rattle.st_tree.specs.declared.program.Program.{Program as Checked}
 use Rattle.st_tree.specs.declared.type_spec.TypeSpec.{TypeSpec}
 use Rattle.st_tree.specs.declared.unit.Decl.{Decl}
-use Rattle.st_tree.specs.Expression.{Expression}
 use Rattle.st_tree.specs.Initial.{initial_of}
-use Rattle.st_rules.specs.declared.asked.Asked.{Asked}
-use Rattle.st_rules.specs.declared.names.DeclaredField.{DeclaredField}
 use Rattle.st_rules.specs.declared.names.DeclaredType.{DeclaredType}
 use Rattle.st_rules.specs.declared.names.DeclaredVariable.{DeclaredVariable}
 use Rattle.st_rules.specs.Chains.{nearest, ◌or_else◌}
 use Rattle.st_rules.specs.Classes.{classes_in, chain}
-use Rattle.st_rules.specs.Expressions.{faults, told}
+use Rattle.st_rules.specs.Expressions.{told}
 use Rattle.st_rules.specs.Scope.{Scope, type_named, variable_named, is_of_instance, field_list, field_from, field_named, instance_entry, instance_variable}
 use Rattle.st_rules.proofs.Booleans.{none≢some, some-same, false≢true}
 use Rattle.st_unit_rules.specs.Checked.{TypedEntry, TypedTypeBody, IsChecked}
 use Rattle.st_unit_rules.specs.Cycles.{Named, alone, before_dot, before_hash, named_in, inner_cycles}
-use Rattle.st_unit_rules.specs.declared_names.Constants.{names_are_told, no_constant_part}
-use Rattle.st_unit_rules.specs.declared_names.Declarations.{an_entry, a_program, Placed, placed, entries_in, programs_in}
+use Rattle.st_unit_rules.specs.declared_names.Declarations.{a_program, Placed, placed, entries_in, programs_in}
 use Rattle.st_unit_rules.specs.declared_names.UnitNames.{unit_names, unit_scope, class_scope, program_scope}
-use Rattle.st_unit_rules.specs.declared_names.Variables.{Written, sections_written, sections_in, is_kept_written}
+use Rattle.st_unit_rules.specs.declared_names.Variables.{Written, sections_written, sections_in}
 use Rattle.st_unit_rules.specs.declared_names.WrittenTypes.{type_written, type_faults}
 use Rattle.st_unit_rules.specs.DeclarationRules.{class_home, group_faults, field_given, program_limits}
-use Rattle.st_unit_rules.specs.Initials.{initial_faults, typed_initial}
+use Rattle.st_unit_rules.specs.Initials.{typed_initial}
 use Rattle.st_unit_rules.specs.UnitRefusal.{BreaksNothing}
 use Rattle.st_unit_rules.specs.VariableRules.{Home, of_program, initial_if_given, instance_out_of_place, sections_faults}
 use Rattle.st_values.specs.Program.{Variable, TypeEntry, Program}
@@ -45,7 +40,6 @@ use Rattle.st_values.specs.Shape.{values_of}
 use Rattle.st_values.specs.View.{sections_in as seen_sections, texts, type_body, type_entry, program_of}
 use Rattle.st_values.proofs.ShapeLaws.{mapped_some}
 use Rattle.std.proofs.lemmas.Option.{slice_get-map}
-use Rattle.st_meaning.specs.st_frame.Footprint.{Has}
 use Rattle.resolution_order.specs.told_laws.ToldLaws.{Every}
 use Rattle.accepted_texts.specs.formed_units.Formed as formed
 use Rattle.accepted_texts.specs.formed_units.Formed.{FormedStart, FormedEntry, FormedGroup, FormedTypeBody, NotEmpty, FormedVars, IsFormed}
@@ -57,11 +51,11 @@ use Rattle.accepted_texts.proofs.sized_units.Scopes.{parts_same, variables_same}
 use Rattle.accepted_texts.proofs.sized_units.Told.{parts_are_told}
 use Rattle.accepted_texts.proofs.sized_units.Variables.{IsOf}
 use Rattle.accepted_texts.proofs.told_units.Law.{program-rules}
-use Rattle.accepted_texts.proofs.told_units.Names.{IsToldType, IsToldNamed, named}
+use Rattle.accepted_texts.proofs.told_units.Names.{IsToldNamed, named}
 use Rattle.accepted_texts.proofs.unfolding_laws.ChainLaws.{sections_typed}
 use Rattle.accepted_texts.proofs.unfolding_laws.CycleLaws.{none_in}
-use Rattle.accepted_texts.proofs.unfolding_laws.ListLaws.{every_at, every_both, every_means, every_one, if_found, each_get}
-use Rattle.declaration_laws.specs.Given.{IsPart, GivenIs, AllGiven}
+use Rattle.accepted_texts.proofs.unfolding_laws.ListLaws.{every_at, every_both, every_one, if_found, each_get}
+use Rattle.declaration_laws.specs.Given.{GivenIs, AllGiven}
 use Rattle.declaration_laws.proofs.Alive.{structure_rules}
 use Rattle.declaration_laws.proofs.Fields.{field_only, field_told}
 use Rattle.declaration_laws.proofs.Initials.{Knows, initial_is}

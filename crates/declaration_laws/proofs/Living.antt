@@ -1,49 +1,27 @@
 -- No class with an instance is abstract: no variable, region or field has an instance of one.
-use Rattle.std.proofs.Common.{◌≡◌, ◌<◌, ◌≤◌, ℕ, zero, suc, ◌+◌, ℤ, Bool, true, false, List, [], ◌∷◌, length, Option, Some, None, refl, sym, ap, ◌∙◌, subst, ◌⊎◌, inl, inr, arith}
-use Rattle.std.specs.Prelude.{◌&&◌, not, option_map, option_and_then, slice_get, nat_lt, if◌then◌else◌}
+use Rattle.std.proofs.Common.{◌≡◌, ℕ, zero, suc, ℤ, Bool, true, false, List, [], ◌∷◌, Option, Some, None, refl, sym, ap, ◌∙◌, subst, ◌⊎◌, inl, inr}
+use Rattle.std.specs.Prelude.{slice_get, nat_lt, if◌then◌else◌}
 use Rattle.st_types.specs.declared.st_type.StType.{StType, out-StType}
 use Rattle.st_types.specs.declared.st_type.StType.TheVariants as type
 use Rattle.st_types.specs.declared.st_type.StType.TheOpen.{StType-F}
 use Rattle.st_types.specs.declared.st_type.StType.TheFolds.{fold-roll-StType}
-use Rattle.st_tree.specs.declared.configuration.InstanceSpec.{InstanceSpec}
-use Rattle.st_tree.specs.declared.declaration.ClassDecl.{ClassDecl}
-use Rattle.st_tree.specs.declared.declaration.FieldGroup.{FieldGroup}
-use Rattle.st_tree.specs.declared.declaration.SectionSort.{SectionSort}
-use Rattle.st_tree.specs.declared.declaration.SectionSort.TheVariants as sort
 use Rattle.st_tree.specs.declared.path.Step.{Step}
 use Rattle.st_tree.specs.declared.path.Step.TheVariants as step
-use Rattle.st_tree.specs.declared.program.Note.{Note}
-use Rattle.st_tree.specs.declared.program.Program.{Program as Checked}
-use Rattle.st_tree.specs.declared.program.RegionDecl.{RegionDecl}
 use Rattle.st_tree.specs.declared.unit.Decl.{Decl}
 use Rattle.st_rules.specs.Classes.{classes_in}
-use Rattle.st_rules.specs.Expressions.{told}
 use Rattle.st_rules.specs.Kinds.{holds_instances, holds_instances-Instance, holds_instances-Array}
-use Rattle.st_rules.specs.Modifiers.{is_abstract}
-use Rattle.st_rules.specs.Numbered.{passes_if_there}
-use Rattle.st_rules.specs.Scope.{Scope}
 use Rattle.st_rules.proofs.Booleans.{none≢some, some-same, true≢false}
-use Rattle.st_unit_rules.specs.Checked.{Each, TypedSpec, TypedGroup, TypedRegion, GlobalRegion, InstanceRegion, IsChecked, unit_regions}
-use Rattle.st_unit_rules.specs.declared_names.Declarations.{Region, of_global, of_instance}
-use Rattle.st_unit_rules.specs.declared_names.UnitNames.{unit_names, unit_scope, class_scope, program_scope}
-use Rattle.st_unit_rules.specs.declared_names.Variables.{Written, sections_in, is_kept_written}
-use Rattle.st_unit_rules.specs.declared_names.WrittenTypes.{type_written}
-use Rattle.st_unit_rules.specs.DeclarationRules.{class_home}
-use Rattle.st_unit_rules.specs.UnitRefusal.{BreaksNothing}
-use Rattle.st_unit_rules.specs.VariableRules.{Home, of_globals, of_program, may_hold_instances, holds_instances_told, class_held, is_abstract_class, makes_instances}
+use Rattle.st_unit_rules.specs.VariableRules.{class_held, is_abstract_class}
 use Rattle.st_values.specs.Program as seen
 use Rattle.st_values.specs.Program.{Variable, Class, Program, class_at, class_variables}
 use Rattle.st_values.specs.Shape as shape
 use Rattle.st_values.specs.Shape.{Shape, Fields, no_fields, field_then, fields_by, fields_of, shape_by, shape_within, simple_shape, element_shape, shape_part, shape_at, region_shape, path_shape, field, extent}
-use Rattle.st_values.specs.Value.{Path, place_of_index, ◌>>=◌}
-use Rattle.st_values.specs.View.{region_of, program_of}
+use Rattle.st_values.specs.Value.{place_of_index, ◌>>=◌}
 use Rattle.st_values.proofs.ShapeLaws.{mapped_some}
 use Rattle.st_values.proofs.ValueLaws.{then_some}
 use Rattle.st_meaning.specs.st_frame.Footprint.{Has}
 use Rattle.st_meaning.specs.st_frame.Promise.Calls.{HasInstance}
-use Rattle.resolution_order.specs.told_laws.ToldLaws.{Every}
 use Rattle.accepted_texts.proofs.sized_units.Depths.{type_is}
-use Rattle.accepted_texts.proofs.sized_units.Variables.{IsOf}
 use Rattle.declaration_laws.specs.Given.{IsPart}
 
 pub held-Instance : (n : ℕ) → class_held (type.Instance n) ≡ Some n

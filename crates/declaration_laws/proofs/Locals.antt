@@ -1,6 +1,6 @@
 -- The locals of routines unfold, begin in range and hold no instance.
-use Rattle.std.proofs.Common.{◌≡◌, ◌≤◌, ℕ, zero, suc, Bool, true, false, List, [], ◌∷◌, ◌++◌, length, Option, Some, None, refl, sym, ap, ◌∙◌, subst}
-use Rattle.std.specs.Prelude.{◌&&◌, not, flat_map, filter, option_map, slice_get, if◌then◌else◌}
+use Rattle.std.proofs.Common.{◌≡◌, ℕ, Bool, true, false, List, [], ◌∷◌, ◌++◌, Option, Some, None, refl, sym, ap, ◌∙◌}
+use Rattle.std.specs.Prelude.{◌&&◌, not, flat_map, filter, if◌then◌else◌}
 use Rattle.std.specs.Option.{is_some}
 use Rattle.std.proofs.lemmas.List.Concat.{flat_map-append}
 use Rattle.plc_text.specs.declared.code.Code.TheVariants.{E07}
@@ -20,7 +20,7 @@ use Rattle.st_rules.specs.Expressions.{told}
 use Rattle.st_rules.specs.Scope.{Scope, is_external}
 use Rattle.st_rules.proofs.Booleans.{both, true≢false, false≢true}
 use Rattle.st_unit_rules.specs.Checked.{Each, IfThere, TypedSpec, TypedSection, IsChecked}
-use Rattle.st_unit_rules.specs.declared_names.Declarations.{declarations, item_line}
+use Rattle.st_unit_rules.specs.declared_names.Declarations.{item_line}
 use Rattle.st_unit_rules.specs.declared_names.UnitNames.{unit_names, unit_scope}
 use Rattle.st_unit_rules.specs.declared_names.Variables.{Written, item_written, section_written, sections_written}
 use Rattle.st_unit_rules.specs.declared_names.WrittenTypes.{type_written, type_faults}
@@ -29,7 +29,7 @@ use Rattle.st_unit_rules.specs.Limits.{has_depth_told}
 use Rattle.st_unit_rules.specs.UnitRefusal.{BreaksNothing}
 use Rattle.st_unit_rules.specs.VariableRules.{Home, of_class, of_block, of_program, of_routine, of_prototype, of_globals, may_hold_instances, holds_instances_told, instance_out_of_place, result_faults}
 use Rattle.st_values.specs.Program.{Variable, Program}
-use Rattle.st_values.specs.Shape.{Shape, shape_of, shape_within}
+use Rattle.st_values.specs.Shape.{shape_of, shape_within}
 use Rattle.st_values.specs.View.{those, negated, is_parameter, variables_in, result_of, kind_of, program_of}
 use Rattle.st_meaning.specs.Call.{is_in_out}
 use Rattle.st_meaning.specs.st_frame.Promise.Declarations.{LocalIs}

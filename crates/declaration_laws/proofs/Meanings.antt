@@ -1,7 +1,6 @@
 -- A name that means a constant means a number of its type, in every scope of a good unit that is formed.
-use Rattle.std.proofs.Common.{◌≡◌, ℕ, Bool, true, false, List, [], ◌∷◌, Option, Some, None, refl, sym, ap, ◌∙◌, subst}
+use Rattle.std.proofs.Common.{◌≡◌, ℕ, Bool, true, false, List, Option, Some, None, sym, ap, ◌∙◌, subst}
 use Rattle.std.specs.Prelude.{option_map, option_and_then, if◌then◌else◌}
-use Rattle.std.specs.Option.{is_some}
 use Rattle.st_types.specs.declared.st_type.StType.{StType}
 use Rattle.st_tree.specs.declared.program.Program.{Program as Checked}
 use Rattle.st_tree.specs.declared.program.Target.{Target}
@@ -14,8 +13,8 @@ use Rattle.st_rules.specs.declared.names.DeclaredVariable.{DeclaredVariable}
 use Rattle.st_rules.specs.Chains.{◌or_else◌}
 use Rattle.st_rules.specs.Classes.{lookup}
 use Rattle.st_rules.specs.Expressions.{value_target}
-use Rattle.st_rules.specs.Scope.{Scope, Meant, a_variable, a_method, entry, sought, meaning_behind, method_meaning, enumerator_meaning, global_named}
-use Rattle.st_rules.proofs.Booleans.{none≢some, some-same, false≢true}
+use Rattle.st_rules.specs.Scope.{Scope, Meant, a_variable, a_method, entry, sought, meaning_behind, enumerator_meaning, global_named}
+use Rattle.st_rules.proofs.Booleans.{false≢true}
 use Rattle.st_unit_rules.specs.Checked.{IsChecked}
 use Rattle.st_unit_rules.specs.declared_names.Constants.{is_told, is_constant_meaning}
 use Rattle.st_unit_rules.specs.declared_names.UnitNames.{unit_names, unit_scope}

@@ -1,5 +1,5 @@
 -- A name that means a variable of an instance means no other variable of it, those of its bases among them.
-use Rattle.std.proofs.Common.{◌≡◌, ◌≤◌, ◌<◌, ℕ, zero, suc, ◌+◌, Bool, true, false, List, [], ◌∷◌, ◌++◌, map, length, Option, Some, None, refl, sym, ap, ◌∙◌, subst, inl, inr, ◌⊎◌, nat_eq, arith}
+use Rattle.std.proofs.Common.{◌≡◌, ◌≤◌, ℕ, zero, suc, ◌+◌, Bool, true, false, List, [], ◌∷◌, map, length, Option, Some, None, refl, sym, ap, ◌∙◌, subst, inl, inr, ◌⊎◌, nat_eq, arith}
 use Rattle.std.specs.Prelude.{◌&&◌, ◌||◌, not, drop, flat_map, filter, option_map, option_and_then, slice_get, if◌then◌else◌}
 use Rattle.std.specs.List.{list_any}
 use Rattle.std.specs.Option.{is_some}
@@ -30,10 +30,10 @@ use Rattle.st_unit_rules.specs.Checked.{TypedClass, IsChecked}
 use Rattle.st_unit_rules.specs.declared_names.UnitNames.{unit_names, unit_scope, class_scope, class_declared, names_from}
 use Rattle.st_unit_rules.specs.declared_names.Variables.{Written, sections_written, sections_in, is_kept_written}
 use Rattle.st_unit_rules.specs.declared_names.WrittenTypes.{type_written}
-use Rattle.st_unit_rules.specs.NameRules.{is_named, texts, member_names, member_name_faults, space_faults, own_variables, of_class, of_bases, variable_texts, variable_of_base, method_named_as_variable}
+use Rattle.st_unit_rules.specs.NameRules.{is_named, member_names, member_name_faults, space_faults, own_variables, of_class, of_bases, variable_texts, variable_of_base}
 use Rattle.st_unit_rules.specs.UnitRefusal.{BreaksNothing}
-use Rattle.st_values.specs.Program.{Variable, Class, Program, class_at, own_of, class_variables, chain_of}
-use Rattle.st_values.specs.View.{sections_in as seen_sections, those, is_kept, variables_in, class_of, program_of}
+use Rattle.st_values.specs.Program.{Variable, Program, class_at, own_of, class_variables}
+use Rattle.st_values.specs.View.{sections_in as seen_sections, class_of, program_of}
 use Rattle.st_values.proofs.ShapeLaws.{mapped_some}
 use Rattle.st_meaning.specs.st_frame.Footprint.{Has}
 use Rattle.resolution_order.specs.told_laws.ToldLaws.{Every}
@@ -45,50 +45,50 @@ use Rattle.accepted_texts.proofs.told_units.Inner.{IsRow, AreRows, members-rows}
 use Rattle.accepted_texts.proofs.unfolding_laws.ChainLaws.{chain_same, chain_there, sections_typed, class_seen, variables_every}
 use Rattle.accepted_texts.proofs.unfolding_laws.CycleLaws.{none_in, none_of_each, not_when}
 use Rattle.accepted_texts.proofs.unfolding_laws.DeclaredLaws.{members_are}
-use Rattle.accepted_texts.proofs.unfolding_laws.ListLaws.{There, every_both, every_means, if_found, if_there, from_get}
+use Rattle.accepted_texts.proofs.unfolding_laws.ListLaws.{There, every_both, every_means, if_there, from_get}
 use Rattle.declaration_laws.specs.Given.{PartNamed}
 use Rattle.declaration_laws.proofs.Fields.{has_front, has_back, told_kind}
 use Rattle.declaration_laws.proofs.Items.{class_fine, on_no_cycle}
-use Rattle.declaration_laws.proofs.Names.{equal, same_self, Unique, space_unique, sections_unique, only_named}
+use Rattle.declaration_laws.proofs.Names.{equal, same_self, space_unique, sections_unique, only_named}
 use Rattle.declaration_laws.proofs.Parts.{kept_says}
 
 -- ---- lists
 
 named_one : (name : List ℕ) (vs : List DeclaredVariable) (v : DeclaredVariable) → variable_named name vs ≡ Some v → Has vs v × (same v.name name ≡ true)
 named_one name [] v e = absurd (none≢some e)
-named_one name (x ∷ vs) v e = by (same x.name name) refl e
+named_one name (x ∷ vs) v e = by (same x.name name) refl e (named_one name vs v)
   where
-    by : (b : Bool) → same x.name name ≡ b → (if b then Some x else variable_named name vs) ≡ Some v → Has (x ∷ vs) v × (same v.name name ≡ true)
-    by true q g = let w : x ≡ v = some-same g in (inl (sym w), ap (λ (z : DeclaredVariable). same z.name name) (sym w) ∙ q)
-    by false q g = let r = named_one name vs v g in (inr r.0, r.1)
+    by : (b : Bool) → same x.name name ≡ b → (if b then Some x else variable_named name vs) ≡ Some v → (variable_named name vs ≡ Some v → Has vs v × (same v.name name ≡ true)) → Has (x ∷ vs) v × (same v.name name ≡ true)
+    by true q g h = let w : x ≡ v = some-same g in (inl (sym w), ap (λ (z : DeclaredVariable). same z.name name) (sym w) ∙ q)
+    by false q g h = let r = h g in (inr r.0, r.1)
 
 named_none : (name : List ℕ) (vs : List DeclaredVariable) (v : DeclaredVariable) → variable_named name vs ≡ None → Has vs v → same v.name name ≡ false
 named_none name [] v e h = absurd h
-named_none name (x ∷ vs) v e h = by (same x.name name) refl e h
+named_none name (x ∷ vs) v e h = by (same x.name name) refl e h (named_none name vs v)
   where
-    by : (b : Bool) → same x.name name ≡ b → (if b then Some x else variable_named name vs) ≡ None → Has (x ∷ vs) v → same v.name name ≡ false
-    by true q g k = absurd (none≢some (sym g))
-    by false q g (inl a) = ap (λ (z : DeclaredVariable). same z.name name) a ∙ q
-    by false q g (inr k) = named_none name vs v g k
+    by : (b : Bool) → same x.name name ≡ b → (if b then Some x else variable_named name vs) ≡ None → Has (x ∷ vs) v → (variable_named name vs ≡ None → Has vs v → same v.name name ≡ false) → same v.name name ≡ false
+    by true q g k r = absurd (none≢some (sym g))
+    by false q g (inl a) r = ap (λ (z : DeclaredVariable). same z.name name) a ∙ q
+    by false q g (inr k) r = r g k
 
 passes_has : {X : Type 0} (test : X → Bool) (xs : List X) (x : X) → Has (filter test xs) x → Has xs x × (test x ≡ true)
 passes_has test [] x h = absurd h
-passes_has test (y ∷ xs) x h = by (test y) refl h
+passes_has test (y ∷ xs) x h = by (test y) refl h (passes_has test xs x)
   where
-    by : (b : Bool) → test y ≡ b → Has (if b then y ∷ filter test xs else filter test xs) x → Has (y ∷ xs) x × (test x ≡ true)
-    by true q (inl e) = (inl e, ap test e ∙ q)
-    by true q (inr k) = let r = passes_has test xs x k in (inr r.0, r.1)
-    by false q k = let r = passes_has test xs x k in (inr r.0, r.1)
+    by : (b : Bool) → test y ≡ b → Has (if b then y ∷ filter test xs else filter test xs) x → (Has (filter test xs) x → Has xs x × (test x ≡ true)) → Has (y ∷ xs) x × (test x ≡ true)
+    by true q (inl e) f = (inl e, ap test e ∙ q)
+    by true q (inr k) f = let r = f k in (inr r.0, r.1)
+    by false q k f = let r = f k in (inr r.0, r.1)
 
 has_passing : {X : Type 0} (test : X → Bool) (xs : List X) (x : X) → Has xs x → test x ≡ true → Has (filter test xs) x
 has_passing test [] x h t = absurd h
-has_passing test (y ∷ xs) x h t = by (test y) refl h
+has_passing test (y ∷ xs) x h t = by (test y) refl h (λ k. has_passing test xs x k t)
   where
-    by : (b : Bool) → test y ≡ b → Has (y ∷ xs) x → Has (if b then y ∷ filter test xs else filter test xs) x
-    by true q (inl e) = inl e
-    by true q (inr k) = inr (has_passing test xs x k t)
-    by false q (inl e) = absurd (true≢false (sym t ∙ (ap test e ∙ q)))
-    by false q (inr k) = has_passing test xs x k t
+    by : (b : Bool) → test y ≡ b → Has (y ∷ xs) x → (Has xs x → Has (filter test xs) x) → Has (if b then y ∷ filter test xs else filter test xs) x
+    by true q (inl e) f = inl e
+    by true q (inr k) f = inr (f k)
+    by false q (inl e) f = absurd (true≢false (sym t ∙ (ap test e ∙ q)))
+    by false q (inr k) f = f k
 
 flat_has : {X : Type 0} (f : ℕ → List X) (ks : List ℕ) (k : ℕ) (x : X) → is_among k ks ≡ true → Has (f k) x → Has (flat_map f ks) x
 flat_has f [] k x h i = absurd (true≢false (sym h))
@@ -262,7 +262,7 @@ module _ (decls : List (Decl ℕ)) (good : BreaksNothing decls) where
       f.kind ∙ ap (λ (y : Written). type_written (class_scope decls (unit_names decls) c) y.item.kind) same_one
 
   step : (c : ℕ) (tail : List ℕ) → chain classes c ≡ c ∷ tail → ((name : List ℕ) (m : ℕ × DeclaredVariable) → instance_entry unit name c ≡ None → nearest (instance_entry unit name) (chain classes c) ≡ Some m → (b : ℕ) (x : ClassDecl ℕ) → is_among b tail ≡ true → slice_get classes b ≡ Some x
-          → (u : Written) → Has (written x) u → is_kept_written u ≡ true → u.name.text ≡ name → m.1.kind ≡ type_written (class_scope decls (unit_names decls) b) u.item.kind) → Means c
+      → (u : Written) → Has (written x) u → is_kept_written u ≡ true → u.name.text ≡ name → m.1.kind ≡ type_written (class_scope decls (unit_names decls) b) u.item.kind) → Means c
   step c tail q above name m e b x a f u h k n = by (variable_named name (filter is_of_instance (variables_of unit c))) refl
     where
       place : (b ≡ c) ⊎ (is_among b tail ≡ true)

@@ -1,5 +1,5 @@
 -- No two declarations of a unit have one name, so that a class is found by its name; and each class conforms to itself.
-use Rattle.std.proofs.Common.{◌≡◌, ℕ, zero, suc, Bool, true, false, List, [], ◌∷◌, ◌++◌, map, Option, Some, None, refl, sym, ap, ◌∙◌, subst, inl, inr, nat_eq}
+use Rattle.std.proofs.Common.{◌≡◌, ℕ, zero, suc, Bool, true, false, List, [], ◌∷◌, ◌++◌, map, Some, refl, sym, ap, ◌∙◌, subst, inl, inr, nat_eq}
 use Rattle.std.specs.Prelude.{flat_map, option_map, slice_get, if◌then◌else◌}
 use Rattle.std.specs.List.{list_any}
 use Rattle.std.proofs.lemmas.Bool.{eq-eqb}
@@ -23,7 +23,7 @@ use Rattle.st_rules.specs.Named.{first_place}
 use Rattle.st_rules.proofs.Booleans.{neither, none≢some, some-same, or-first}
 use Rattle.st_rules.proofs.InterfaceLaws.{conforms_to_itself}
 use Rattle.st_unit_rules.specs.Checked.{Each, EachFrom, TypedClass, TypedProgram, IsChecked}
-use Rattle.st_unit_rules.specs.declared_names.Declarations.{Declaration, an_entry, a_global, an_interface, a_class, a_function, a_program, a_configuration, Global, Region, Placed, declarations_of, declarations, placed, place_each, placed_from, regions_of, instances_of, is_first_configuration, globals_of_item, globals_of_section, configuration_globals, name_of, names_put, programs_in}
+use Rattle.st_unit_rules.specs.declared_names.Declarations.{Declaration, an_entry, a_class, a_program, Region, Placed, declarations_of, declarations, placed, place_each, placed_from, regions_of, instances_of, is_first_configuration, globals_of_item, globals_of_section, configuration_globals, name_of, names_put, programs_in}
 use Rattle.st_unit_rules.specs.declared_names.Variables.{Written, item_written, section_written, sections_written}
 use Rattle.st_unit_rules.specs.NameRules.{is_named, declared_before}
 use Rattle.st_unit_rules.specs.UnitRefusal.{BreaksNothing, faults_of}
@@ -39,7 +39,7 @@ use Rattle.class_laws.proofs.Above.{at_number, conforms_class, back}
 use Rattle.declaration_laws.proofs.Fields.{has_front, has_back}
 use Rattle.declaration_laws.proofs.Members.{all_has, mapped_has}
 use Rattle.declaration_laws.proofs.Names.{same_self, not_turned, Differ, Unique}
-use Rattle.declaration_laws.proofs.Places.{OfSorts, sorts_from}
+use Rattle.declaration_laws.proofs.Places.{sorts_from}
 
 -- ---- each before those behind it
 
@@ -81,11 +81,10 @@ each_keeps e b r (d ∷ ds) =
 
 each_follows : (e : List Declaration) (b : List (List ℕ)) (r : List Region) (ds : List Declaration) → Pairs Follows (place_each e b r ds)
 each_follows e b r [] = tt
-each_follows e b r (d ∷ ds) =
-    (
-      every_means (Keeps (b ++ text_of d ∷ [])) (λ y. Has y.before (text_of d)) (λ y k. k (text_of d) (has_back b (text_of d ∷ []) (text_of d) (inl refl))) (place_each (e ++ d ∷ []) (b ++ text_of d ∷ []) (r ++ regions_of d) ds) (each_keeps (e ++ d ∷ []) (b ++ text_of d ∷ []) (r ++ regions_of d) ds),
-      each_follows (e ++ d ∷ []) (b ++ text_of d ∷ []) (r ++ regions_of d) ds,
-    )
+each_follows e b r (d ∷ ds) = (
+  every_means (Keeps (b ++ text_of d ∷ [])) (λ y. Has y.before (text_of d)) (λ y k. k (text_of d) (has_back b (text_of d ∷ []) (text_of d) (inl refl))) (place_each (e ++ d ∷ []) (b ++ text_of d ∷ []) (r ++ regions_of d) ds) (each_keeps (e ++ d ∷ []) (b ++ text_of d ∷ []) (r ++ regions_of d) ds),
+  each_follows (e ++ d ∷ []) (b ++ text_of d ∷ []) (r ++ regions_of d) ds,
+)
 
 each_has : (Q : Declaration → Type 0) (e : List Declaration) (b : List (List ℕ)) (r : List Region) (ds : List Declaration) → Every Q ds → Every (λ (x : Placed). Q x.declaration) (place_each e b r ds)
 each_has Q e b r [] h = tt
@@ -134,10 +133,12 @@ puts (declaration.Function d) = (inl refl, tt)
 puts (declaration.Program d) = (inl refl, tt)
 puts (declaration.Configuration c) =
     let ws = sections_written (configuration_globals c) in
-    let ns = put (declaration.Configuration c) in
-    (inl refl, sections_put ns (configuration_globals c)
-    (every_means (λ (w : Written). Has ws w) (λ (w : Written). Has ns w.name.text)
-    (λ w h. inr (mapped_has (λ (n : Name). n.text) _ w.name (has_front (map (λ (w : Written). w.name) ws) _ w.name (mapped_has (λ (w : Written). w.name) ws w h)))) ws (all_has ws)))
+    let ns = put (declaration.Configuration c) in (
+      inl refl,
+      sections_put ns (configuration_globals c)
+          (every_means (λ (w : Written). Has ws w) (λ (w : Written). Has ns w.name.text)
+          (λ w h. inr (mapped_has (λ (n : Name). n.text) _ w.name (has_front (map (λ (w : Written). w.name) ws) _ w.name (mapped_has (λ (w : Written). w.name) ws w h)))) ws (all_has ws)),
+    )
 
 -- ---- all declarations
 
@@ -182,11 +183,10 @@ module _ (decls : List (Decl ℕ)) (good : BreaksNothing decls) where
 
   pairs_differ : (xs : List Placed) → Pairs Follows xs → Every NotBefore xs → Pairs (λ (x y : Placed). Differs x.declaration y.declaration) xs
   pairs_differ [] f n = tt
-  pairs_differ (x ∷ xs) f n =
-      (
-        every_both (Follows x) NotBefore (λ (y : Placed). Differs x.declaration y.declaration) (λ y a b. not_turned (text_of y.declaration) (text_of x.declaration) (none_same (text_of y.declaration) y.before (text_of x.declaration) b a)) xs f.0 n.1,
-        pairs_differ xs f.1 n.1,
-      )
+  pairs_differ (x ∷ xs) f n = (
+    every_both (Follows x) NotBefore (λ (y : Placed). Differs x.declaration y.declaration) (λ y a b. not_turned (text_of y.declaration) (text_of x.declaration) (none_same (text_of y.declaration) y.before (text_of x.declaration) b a)) xs f.0 n.1,
+    pairs_differ xs f.1 n.1,
+  )
 
   all_differ : Pairs Differs (declarations decls)
   unfolding placed

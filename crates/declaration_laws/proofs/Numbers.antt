@@ -1,6 +1,6 @@
 -- What operators and literals come to is a number of the type that they give.
-use Rattle.std.proofs.Common.{◌≡◌, ℕ, ℤ, pos, ◌<◌, Bool, true, false, [], Option, Some, None, refl, sym, ap, ◌∙◌, subst, inl, inr, arith}
-use Rattle.std.specs.Prelude.{neg_ℤ, ◌&&◌, ◌||◌, if◌then◌else◌, int_le, nat_lt, int_lt, not, ◌^◌}
+use Rattle.std.proofs.Common.{◌≡◌, ℕ, ℤ, pos, Bool, true, false, [], Option, Some, refl, sym, ap, ◌∙◌, subst, inl, inr, arith}
+use Rattle.std.specs.Prelude.{neg_ℤ, ◌&&◌, if◌then◌else◌, int_le, nat_lt, int_lt, not, ◌^◌}
 use Rattle.std.specs.Ordering.{int_eq}
 use Rattle.st_types.specs.declared.elem.Elem.{Elem}
 use Rattle.st_types.specs.declared.elem.Elem.TheVariants as elem

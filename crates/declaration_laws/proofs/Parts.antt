@@ -1,6 +1,6 @@
 -- What declarations say of each field of a structure and each variable that an instance keeps, said of every part of a type.
-use Rattle.std.proofs.Common.{◌≡◌, ℕ, zero, suc, ◌+◌, Bool, true, false, List, [], ◌∷◌, ◌++◌, reverse, length, Option, Some, None, refl, sym, ap, ◌∙◌, subst, inl, inr, arith}
-use Rattle.std.specs.Prelude.{◌&&◌, filter, option_map, slice_get, if◌then◌else◌}
+use Rattle.std.proofs.Common.{◌≡◌, ℕ, suc, ◌+◌, Bool, true, false, List, [], ◌∷◌, reverse, length, Option, Some, None, refl, sym, ap, ◌∙◌, subst, arith}
+use Rattle.std.specs.Prelude.{filter, option_map, slice_get, if◌then◌else◌}
 use Rattle.std.proofs.lemmas.Option.{slice_get-map}
 use Rattle.st_types.specs.declared.st_type.StType.{StType}
 use Rattle.st_types.specs.declared.st_type.StType.TheVariants as type
@@ -31,15 +31,14 @@ use Rattle.st_unit_rules.specs.declared_names.WrittenTypes.{type_written}
 use Rattle.st_unit_rules.specs.Initials.{typed_initial}
 use Rattle.st_values.specs.Program.{Variable, TypeEntry, Class, Program, class_at, own_of, own_variables, chain_of, class_variables}
 use Rattle.st_values.specs.Shape.{fields_of}
-use Rattle.st_values.specs.View.{kind_of, initial_in, those, is_kept, sections_in, variables_in, group_variables, groups_in, type_body, type_entry, class_of, classes_from, programs_from, program_of}
+use Rattle.st_values.specs.View.{kind_of, initial_in, those, is_kept, sections_in, variables_in, group_variables, groups_in, type_body, type_entry, classes_from, programs_from, program_of}
 use Rattle.st_values.proofs.ShapeLaws.{mapped_some}
-use Rattle.st_meaning.specs.st_frame.Footprint.{Has}
 use Rattle.resolution_order.specs.told_laws.ToldLaws.{Every}
 use Rattle.accepted_texts.proofs.sized_units.Outputs.{every_has}
 use Rattle.accepted_texts.proofs.sized_units.Variables.{IsOf, given_same, kept_of}
 use Rattle.accepted_texts.proofs.unfolding_laws.ChainLaws.{variables_every}
 use Rattle.accepted_texts.proofs.unfolding_laws.ViewLaws.{kind_shown}
-use Rattle.accepted_texts.proofs.unfolding_laws.ListLaws.{every_append, every_at, every_one, every_from, every_reversed, if_found, each_get, from_get}
+use Rattle.accepted_texts.proofs.unfolding_laws.ListLaws.{every_append, every_at, every_one, every_from, if_found, each_get, from_get}
 use Rattle.declaration_laws.specs.Given.{IsPart}
 
 -- ---- what an instance keeps, by what is written
@@ -53,11 +52,11 @@ module _ (s : Scope) (R : Variable → Type 0) (F : Written → Type 0) (by_one 
 
   only_kept : (ws : List Written) → Every F ws → Every (λ (w : Written). (is_kept_written w ≡ true) × F w) (filter is_kept_written ws)
   only_kept [] f = tt
-  only_kept (w ∷ ws) f = by (is_kept_written w) refl
+  only_kept (w ∷ ws) f = by (is_kept_written w) refl (only_kept ws f.1)
     where
-      by : (b : Bool) → is_kept_written w ≡ b → Every (λ (u : Written). (is_kept_written u ≡ true) × F u) (if b then w ∷ filter is_kept_written ws else filter is_kept_written ws)
-      by true e = ((e, f.0), only_kept ws f.1)
-      by false e = only_kept ws f.1
+      by : (b : Bool) → is_kept_written w ≡ b → Every (λ (u : Written). (is_kept_written u ≡ true) × F u) (filter is_kept_written ws) → Every (λ (u : Written). (is_kept_written u ≡ true) × F u) (if b then w ∷ filter is_kept_written ws else filter is_kept_written ws)
+      by true e r = ((e, f.0), r)
+      by false e r = r
 
   pub kept_says : (xs : List (Section ℕ)) (ys : List (Section Note)) → Each (TypedSection s) xs ys → Every F (sections_written xs) → Every R (those is_kept (variables_in ys))
   kept_says xs ys t f = each_kept (those is_kept (variables_in ys)) (filter is_kept_written (sections_written xs)) (kept_of s xs ys t) (only_kept (sections_written xs) f)

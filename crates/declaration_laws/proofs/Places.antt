@@ -1,5 +1,5 @@
 -- Where each entry of TYPE, function, program and interface of a unit stands, and what its rules say.
-use Rattle.std.proofs.Common.{◌≡◌, ℕ, Bool, true, false, List, [], ◌∷◌, ◌++◌, map, Option, Some, None, refl, sym, ap, ◌∙◌, subst}
+use Rattle.std.proofs.Common.{◌≡◌, ℕ, Bool, true, false, List, [], ◌∷◌, ◌++◌, map, Option, Some, None, refl, sym, ap, ◌∙◌}
 use Rattle.std.specs.Prelude.{flat_map, option_map, slice_get}
 use Rattle.std.proofs.lemmas.Option.{slice_get-map}
 use Rattle.st_tree.specs.declared.configuration.Resource.{Resource}
@@ -16,9 +16,9 @@ use Rattle.st_tree.specs.Declarations.{is_global}
 use Rattle.st_rules.specs.Classes.{classes_in}
 use Rattle.st_rules.specs.Interfaces.{interfaces_in}
 use Rattle.st_rules.proofs.Booleans.{none≢some, some-same}
-use Rattle.st_unit_rules.specs.declared_names.Declarations.{Declaration, an_entry, a_global, an_interface, a_class, a_function, a_program, a_configuration, Global, Placed, declarations_of, declarations, placed, globals_of_item, globals_of_section, resource_globals, configuration_globals, entries_in, functions_in, programs_in}
+use Rattle.st_unit_rules.specs.declared_names.Declarations.{Declaration, an_entry, a_global, an_interface, a_class, a_function, a_program, Placed, declarations_of, declarations, placed, globals_of_item, globals_of_section, resource_globals, configuration_globals, entries_in, functions_in, programs_in}
 use Rattle.st_unit_rules.specs.declared_names.Variables.{Written, item_written}
-use Rattle.st_unit_rules.specs.DeclarationRules.{sort_faults, type_body_faults, body_depth, global_faults, configuration_faults}
+use Rattle.st_unit_rules.specs.DeclarationRules.{sort_faults, type_body_faults}
 use Rattle.st_unit_rules.specs.NameRules.{space_faults, part_names}
 use Rattle.st_unit_rules.specs.UnitRefusal.{BreaksNothing}
 use Rattle.resolution_order.specs.told_laws.ToldLaws.{Every}

@@ -1,5 +1,5 @@
 -- The type of each region unfolds, and its initial value has the shape.
-use Rattle.std.proofs.Common.{◌≡◌, ℕ, zero, suc, Bool, true, false, List, [], ◌∷◌, ◌++◌, Option, Some, None, refl, sym, ap, ◌∙◌, subst}
+use Rattle.std.proofs.Common.{◌≡◌, ℕ, Bool, true, List, [], ◌∷◌, Some, sym, ap, ◌∙◌, subst}
 use Rattle.std.specs.Prelude.{option_map, slice_get}
 use Rattle.std.specs.Option.{is_some}
 use Rattle.std.proofs.lemmas.Option.{slice_get-map}
@@ -11,7 +11,7 @@ use Rattle.st_tree.specs.declared.program.RegionDecl.{RegionDecl}
 use Rattle.st_tree.specs.declared.unit.Decl.{Decl}
 use Rattle.st_tree.specs.Initial.{initial_of}
 use Rattle.st_rules.specs.Scope.{Scope}
-use Rattle.st_unit_rules.specs.Checked.{TypedRegion, GlobalRegion, InstanceRegion, IsChecked, unit_regions}
+use Rattle.st_unit_rules.specs.Checked.{TypedRegion, IsChecked, unit_regions}
 use Rattle.st_unit_rules.specs.declared_names.Declarations.{Declaration, an_entry, a_global, an_interface, a_class, a_function, a_program, a_configuration, Region, of_global, of_instance, declarations}
 use Rattle.st_unit_rules.specs.declared_names.UnitNames.{unit_names, unit_scope}
 use Rattle.st_unit_rules.specs.declared_names.WrittenTypes.{type_written}
@@ -20,7 +20,7 @@ use Rattle.st_unit_rules.specs.RefusalLaws.{IsGood}
 use Rattle.st_unit_rules.specs.VariableRules.{of_globals}
 use Rattle.st_values.specs.Program as seen
 use Rattle.st_values.specs.Program.{Program}
-use Rattle.st_values.specs.Shape.{Shape, shape_of}
+use Rattle.st_values.specs.Shape.{shape_of}
 use Rattle.st_values.specs.Value.{◌>>=◌}
 use Rattle.st_values.specs.View.{initial_in, region_of, program_of}
 use Rattle.st_values.proofs.ShapeLaws.{mapped_some}

@@ -1,8 +1,7 @@
 -- What methods and functions declare is right: their locals, and their parameters, which are locals.
-use Rattle.std.proofs.Common.{◌≡◌, ℕ, zero, suc, ◌+◌, Bool, true, false, List, [], ◌∷◌, ◌++◌, map, length, Option, Some, None, refl, sym, ap, ◌∙◌, subst}
-use Rattle.std.specs.Prelude.{not, flat_map, filter, option_map, slice_get}
-use Rattle.std.specs.Option.{is_some}
-use Rattle.st_types.specs.declared.st_type.StType.{StType, out-StType}
+use Rattle.std.proofs.Common.{◌≡◌, ℕ, ◌+◌, Bool, true, false, List, [], ◌++◌, length, Option, Some, None, refl, sym, ap, ◌∙◌, subst}
+use Rattle.std.specs.Prelude.{not, flat_map, filter, slice_get}
+use Rattle.st_types.specs.declared.st_type.StType.{StType}
 use Rattle.st_types.specs.declared.st_type.StType.TheVariants as type
 use Rattle.st_tree.specs.declared.declaration.ClassDecl.{ClassDecl}
 use Rattle.st_tree.specs.declared.declaration.FunctionDecl.{FunctionDecl}
@@ -17,28 +16,26 @@ use Rattle.st_tree.specs.Statement.{Statements}
 use Rattle.st_rules.specs.declared.names.DeclaredVariable.{DeclaredVariable}
 use Rattle.st_rules.specs.Classes.{classes_in, methods_in}
 use Rattle.st_rules.specs.Scope.{Scope, is_external}
-use Rattle.st_rules.proofs.Booleans.{some-same, none≢some, true≢false}
+use Rattle.st_rules.proofs.Booleans.{some-same, true≢false}
 use Rattle.st_unit_rules.specs.Checked.{Each as EachPair, IfThere, TypedSpec, TypedSection, TypedMethod, TypedFunction, IsChecked}
 use Rattle.st_unit_rules.specs.Cycles.{inner_cycles}
 use Rattle.st_unit_rules.specs.declared_names.Declarations.{a_function}
-use Rattle.st_unit_rules.specs.declared_names.UnitNames.{unit_names, unit_scope, method_scope, function_scope}
-use Rattle.st_unit_rules.specs.declared_names.Variables.{Written, sections_written}
-use Rattle.st_unit_rules.specs.declared_names.WrittenTypes.{type_written}
-use Rattle.st_unit_rules.specs.DeclarationRules.{items_in, item_too_deep, result_too_deep, count_parameters, parameter_limits, local_limits, routine_faults, method_faults, function_faults}
+use Rattle.st_unit_rules.specs.declared_names.UnitNames.{unit_names, method_scope, function_scope}
+use Rattle.st_unit_rules.specs.declared_names.Variables.{sections_written}
+use Rattle.st_unit_rules.specs.DeclarationRules.{items_in, item_too_deep, result_too_deep, count_parameters, parameter_limits, local_limits, routine_faults}
 use Rattle.st_unit_rules.specs.Limits.{too_many_parameters}
 use Rattle.st_unit_rules.specs.NameRules.{local_name_faults, word_twice}
 use Rattle.st_unit_rules.specs.UnitRefusal.{BreaksNothing}
 use Rattle.st_unit_rules.specs.VariableRules.{of_routine, sections_faults, result_faults}
 use Rattle.st_rules.specs.Statements.{body_faults}
 use Rattle.st_tree.specs.Statement.{statements_of}
-use Rattle.st_values.specs.Program.{Variable, to_local, Parameter, Routine, Program, class_at, class_variables}
+use Rattle.st_values.specs.Program.{Variable, Parameter, Program, class_at, class_variables}
 use Rattle.st_values.specs.Shape as shape
 use Rattle.st_values.specs.Shape.{Shape, fields_by, shape_of, shape_by, shape_within, has_instance}
 use Rattle.st_values.specs.Value.{◌>>=◌}
 use Rattle.st_values.specs.View.{those, negated, is_parameter, variables_in, result_of, routine_of, method_of, function_of, local_parameters, program_of}
 use Rattle.st_values.proofs.ValueLaws.{then_some}
 use Rattle.st_meaning.specs.Call.{is_in_out}
-use Rattle.st_meaning.specs.st_frame.Promise.Calls.{recipient_variable}
 use Rattle.st_meaning.specs.st_frame.Promise.Declarations.{Each, LocalIs, ParameterIs}
 use Rattle.st_meaning.specs.st_frame.Promise.Types.{IsNoInstance}
 use Rattle.resolution_order.specs.told_laws.ToldLaws.{Every}
@@ -49,8 +46,7 @@ use Rattle.accepted_texts.proofs.formed_texts.Units.{method_at, part_at}
 use Rattle.accepted_texts.proofs.told_units.Law.{method-rules, function-rules}
 use Rattle.accepted_texts.proofs.unfolding_laws.CycleLaws.{none_in}
 use Rattle.accepted_texts.proofs.unfolding_laws.ListLaws.{every_at, every_from, front_get, back_get}
-use Rattle.class_laws.proofs.Parameters.{as_local, local_at}
-use Rattle.declaration_laws.proofs.Initials.{Knows}
+use Rattle.class_laws.proofs.Parameters.{local_at}
 use Rattle.declaration_laws.proofs.Items.{sections_local}
 use Rattle.declaration_laws.proofs.Knowing.{inside, all_told, knows, sections_say}
 use Rattle.declaration_laws.proofs.Locals.{variables_are, result_is, in_order}

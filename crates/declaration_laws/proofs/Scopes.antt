@@ -1,5 +1,5 @@
 -- In a scope where what is told of constants are numbers of their types, so is what a name means.
-use Rattle.std.proofs.Common.{◌≡◌, ◌<◌, ℕ, zero, suc, ◌+◌, Bool, true, false, List, [], ◌∷◌, ◌++◌, length, Option, Some, None, refl, sym, ap, ◌∙◌, subst, arith}
+use Rattle.std.proofs.Common.{◌≡◌, ◌<◌, ℕ, zero, suc, ◌+◌, Bool, true, false, List, [], ◌∷◌, length, Option, Some, None, refl, subst, arith}
 use Rattle.std.specs.Prelude.{pos, filter, slice_get, if◌then◌else◌, option_map, option_and_then}
 use Rattle.plc_text.specs.Words.{same}
 use Rattle.st_types.specs.declared.st_type.StType.TheVariants as type
@@ -15,7 +15,7 @@ use Rattle.st_rules.specs.Chains.{◌or_else◌, nearest}
 use Rattle.st_rules.specs.Classes.{chain, lookup}
 use Rattle.st_rules.specs.Named.{first_place}
 use Rattle.st_rules.specs.Numbered.{each_numbered}
-use Rattle.st_rules.specs.Scope.{Scope, Meant, a_variable, a_method, an_enumerator, variable_named, first_named, global_name, global_meaning, global_named, variables_of, value_names, value_named, value_of, is_external, is_inherited, meant_by, of_class, own_entry, base_entry, class_entry, local_entry, entry, method_meaning, enumerator_meaning, only_enumerator, meaning_behind, sought}
+use Rattle.st_rules.specs.Scope.{Scope, Meant, a_variable, a_method, variable_named, first_named, global_name, global_meaning, global_named, variables_of, value_names, value_named, value_of, is_external, is_inherited, of_class, own_entry, base_entry, class_entry, local_entry, entry, method_meaning, enumerator_meaning, only_enumerator, meaning_behind, sought}
 use Rattle.st_rules.proofs.Booleans.{none≢some}
 use Rattle.st_rules.proofs.ClassLaws.{first_place_within}
 use Rattle.st_values.specs.Program.{Program}
@@ -167,7 +167,7 @@ module _ (p : Program) where
     entry_fits name = either_entry (local_entry s name) (class_entry s name s.class) (local_fits (variable_named name s.locals) (named name s.locals h.locals)) (class_entry_fits name s.class)
 
     enumerated : (name : List ℕ) → MeantFits p (enumerator_meaning s name)
-    enumerated name = only_fits (each_numbered (value_named name) 0 s.names.parts) (all_named name 0 s.names.parts h.names.values)
+    enumerated name = only_fits (each_numbered (value_named name) 0 s.names.parts) (all_named name 0 s.names.parts (λ i t k e q. let z : i ≡ 0 + i = omega arith in subst (λ n. NumberIs p (type.Enumeration n) (pos k)) z (h.names.values i t k e q)))
 
     behind_fits : (called : Bool) (name : List ℕ) (o : Option (Option ℕ × DeclaredVariable)) → EntryFits o → MeantFits p (meaning_behind s called name o)
     behind_fits true name None k =

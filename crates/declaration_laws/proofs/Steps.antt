@@ -1,7 +1,6 @@
 -- What is told of constants are numbers of their types, however many steps have told it.
-use Rattle.std.proofs.Common.{◌≡◌, ◌<◌, ℕ, zero, suc, ◌+◌, ℤ, Bool, true, false, List, [], ◌∷◌, ◌++◌, map, length, Option, Some, None, refl, sym, ap, ◌∙◌, subst}
+use Rattle.std.proofs.Common.{◌≡◌, ◌<◌, ℕ, zero, suc, ◌+◌, Bool, true, false, List, [], ◌∷◌, map, length, Option, Some, None, refl, sym, ap, ◌∙◌, subst, arith}
 use Rattle.std.specs.Prelude.{pos, option_map, option_and_then, if◌then◌else◌, slice_get}
-use Rattle.std.proofs.lemmas.List.{length-map}
 use Rattle.std.proofs.lemmas.Option.{slice_get-map}
 use Rattle.st_types.specs.declared.st_type.StType.{StType}
 use Rattle.st_types.specs.declared.st_type.StType.TheVariants as type
@@ -37,9 +36,8 @@ use Rattle.st_rules.specs.Scope.{Scope, value_names, is_instance_sort, is_body_s
 use Rattle.st_rules.proofs.Booleans.{none≢some, some-same, true≢false}
 use Rattle.st_unit_rules.specs.declared_names.Constants.{Outcome, comes_to, divides_by_zero, cannot_be_told, constant_value, if_none, told_value, value_faults, names_are_told}
 use Rattle.st_unit_rules.specs.declared_names.Declarations.{configuration_globals, entries_in}
-use Rattle.st_unit_rules.specs.declared_names.WrittenTypes.{type_written}
 use Rattle.st_unit_rules.specs.declared_names.Variables.{Written, sections_written, sections_in, may_be_constant, value_given, constant_target, constant_of, declared_with, declared_each, member_targets, members_declared, local_targets, result_declared, locals_declared, routine_locals}
-use Rattle.st_unit_rules.specs.declared_names.UnitNames.{forgotten, forgotten_class, forgotten_parts, forgotten_global, forgotten_names, constants_written, told_locals, locals_of, program_locals, unit_scope, class_scope, outer_scope, method_scope, function_scope, prototype_scope, program_scope, class_declared, parts_declared, variables_declared, region_count, globals_from, names_from, no_names, names_told, steps_needed, unit_names}
+use Rattle.st_unit_rules.specs.declared_names.UnitNames.{forgotten, forgotten_class, forgotten_parts, forgotten_global, constants_written, told_locals, locals_of, program_locals, unit_scope, class_scope, outer_scope, method_scope, function_scope, prototype_scope, program_scope, class_declared, parts_declared, variables_declared, region_count, globals_from, names_from, no_names, names_told, steps_needed, unit_names}
 use Rattle.st_unit_rules.specs.Checked.{TypedEntry, TypedTypeBody, IsChecked}
 use Rattle.st_values.specs.Program.{Program}
 use Rattle.st_values.specs.Shape.{Enumeration, shape_by, shape_within, simple_shape, values_of}
@@ -254,8 +252,8 @@ module _ (p : Program) where
 module _ (decls : List (Decl ℕ)) (p : Checked) (checked : IsChecked decls p) where
   shaped : (n : ℕ) (t : TypeDecl ℕ) (k : ℕ) (y : TypeDecl Note) → slice_get p.types n ≡ Some y → (a : TypeBody ℕ) (b : TypeBody Note) → y.body ≡ b → TypedTypeBody decls a b → k < length (value_names (parts_declared decls (no_names decls) a))
       → NumberIs (program_of p) (type.Enumeration n) (pos k)
-  shaped n t k y e (body.Alias u) b q h l = absurd (cc)
-  shaped n t k y e (body.Structure gs) b q h l = absurd (cc)
+  shaped n t k y e (body.Alias u) b q h l = let z : k < 0 = l in absurd (omega (arith, z))
+  shaped n t k y e (body.Structure gs) b q h l = let z : k < 0 = l in absurd (omega (arith, z))
   shaped n t k y e (body.Enumeration ns) (body.Alias u) q h l = absurd h
   shaped n t k y e (body.Enumeration ns) (body.Structure gs) q h l = absurd h
   shaped n t k y e (body.Enumeration ns) (body.Enumeration ms) q h l =

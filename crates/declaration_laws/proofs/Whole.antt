@@ -1,6 +1,6 @@
 -- The declarations of the checked program of a good unit that is formed are as is promised.
-use Rattle.std.proofs.Common.{◌≡◌, ℕ, suc, ◌+◌, List, [], ◌∷◌, ◌++◌, map, reverse, length, Option, Some, None, refl, sym, ap, ◌∙◌, subst, inl, inr, arith}
-use Rattle.std.specs.Prelude.{option_map, slice_get, if◌then◌else◌, Bool, true, false}
+use Rattle.std.proofs.Common.{◌≡◌, ℕ, suc, ◌+◌, List, [], ◌∷◌, map, reverse, length, Option, Some, None, refl, sym, ap, ◌∙◌, subst, inl, inr, arith}
+use Rattle.std.specs.Prelude.{slice_get, if◌then◌else◌, Bool, true, false}
 use Rattle.std.proofs.lemmas.Option.{slice_get-map}
 use Rattle.plc_text.specs.Words.{same}
 use Rattle.st_tree.specs.declared.declaration.ClassDecl.{ClassDecl}
