@@ -4,6 +4,8 @@ use Rattle.st_types.specs.declared.st_type.StType.{StType}
 use Rattle.st_tree.specs.declared.program.Program.{Program as Checked}
 use Rattle.st_tree.specs.declared.program.Target.{Target}
 use Rattle.st_tree.specs.declared.program.Target.TheVariants as target
+use Rattle.st_tree.specs.declared.declaration.Section.{Section}
+use Rattle.st_tree.specs.declared.type_spec.TypeSpec.{TypeSpec}
 use Rattle.st_tree.specs.declared.unit.Decl.{Decl}
 use Rattle.st_rules.specs.Scope.{Scope}
 use Rattle.st_rules.proofs.Booleans.{false≢true}
@@ -14,7 +16,7 @@ use Rattle.st_values.specs.Program.{Program}
 use Rattle.st_values.specs.View.{program_of}
 use Rattle.st_meaning.specs.st_frame.Promise.Programs.{ProgramIs}
 use Rattle.accepted_texts.specs.formed_units.Formed.{IsFormed}
-use Rattle.accepted_texts.specs.told_units.Told.{in_class, in_method, in_function, in_program}
+use Rattle.accepted_texts.specs.told_units.Told.{WrittenIn, in_class, in_method, in_function, in_program}
 use Rattle.accepted_texts.proofs.formed_texts.Texts.{formed_text_laws}
 use Rattle.declaration_laws.proofs.Constants.{ConstantFits, MeantFits, ScopeFits}
 use Rattle.declaration_laws.proofs.Meanings.{written_fits}
@@ -40,11 +42,13 @@ numbers p s f = record {
 }
 
 module _ (most : ℕ) (decls : List (Decl ℕ)) (p : Checked) (well : IsFormed most decls) (good : IsGood decls) (checked : IsChecked decls p) where
+  fits : (s : Scope) (o : Option (TypeSpec ℕ)) (ss : List (Section ℕ)) → WrittenIn decls s o ss → HasNumbers (program_of p) s
+  fits s o ss w = numbers (program_of p) s (written_fits most decls p well good.nothing checked s o ss w)
+
   pub keeps : ProgramIs (program_of p)
   keeps =
       let r = declaration_laws.right most decls p well good checked in
       let meets : MeetsInterfaces decls p = record { by = r.met } in
-      let fits = λ s o ss w. numbers (program_of p) s (written_fits most decls p well good.nothing checked s o ss w) in
       program_is p r.no_cycle r.declarations
       (bodies_are most decls p checked well good.nothing (formed_text_laws.told most decls well good.nothing) r.no_cycle (class_rules_good decls good.nothing) meets
       (λ id x. fits _ _ _ (in_method id.class x.class id.method x.method x.class_there x.there))
