@@ -45,11 +45,11 @@ use Rattle.accepted_texts.proofs.unfolding_laws.ChainLaws.{sections_typed}
 use Rattle.accepted_texts.proofs.unfolding_laws.CycleLaws.{none_in, none_of_each, not_when}
 use Rattle.accepted_texts.proofs.unfolding_laws.ListLaws.{every_at, every_both, every_one, if_found, each_get}
 use Rattle.accepted_texts.proofs.unfolding_laws.RegionLaws.{OfRegion, OfGlobal, each_program, all_regions}
-use Rattle.declaration_laws.specs.Given.{IsPart}
-use Rattle.declaration_laws.proofs.Items.{ItemFine, WrittenFine, class_fine, sections_fine, program_fine, global_fine}
+use Rattle.constant_laws.specs.Given.{IsPart}
+use Rattle.initial_laws.proofs.Items.{ItemFine, WrittenFine, class_fine, sections_fine, program_fine, global_fine}
 use Rattle.declaration_laws.proofs.Living.{held-Instance, Lives, TypeLives, instance_lives}
-use Rattle.declaration_laws.proofs.Parts.{FieldOf, Says, groups_say, kept_says, parts_say}
-use Rattle.declaration_laws.proofs.Places.{IsGlobalSort, PlacedAt, all_at, rules_at, EntryFine, entries_fine, globals_are}
+use Rattle.initial_laws.proofs.Parts.{FieldOf, Says, groups_say, kept_says, parts_say}
+use Rattle.initial_laws.proofs.Places.{IsGlobalSort, PlacedAt, all_at, rules_at, structure_rules, globals_are}
 
 pub no_input : (h : Home) → may_hold_instances h sort.Input ≡ false
 no_input of_class = refl
@@ -104,12 +104,6 @@ module _ (decls : List (Decl ℕ)) where
       by : (o : Option (ClassDecl ℕ)) → slice_get (classes_in decls) (length (classes_in decls) + k) ≡ o → passes_if_there (λ (d : ClassDecl ℕ). is_abstract d.modifiers) o ≡ false
       by None e = refl
       by (Some d) e = let l = slice_get_within (classes_in decls) (length (classes_in decls) + k) d e in absurd (omega (arith, l))
-
-  -- the fields of a structure break no rule
-  pub structure_rules : BreaksNothing decls → (n : ℕ) (t : TypeDecl ℕ) (gs : List (FieldGroup ℕ)) → slice_get (entries_in decls) n ≡ Some t → t.body ≡ body.Structure gs → Every (λ g. group_faults decls g ≡ []) gs
-  structure_rules good n t gs e q =
-      let f = every_at (EntryFine decls good) (entries_in decls) n t (entries_fine decls good) e in
-      none_of_each (group_faults decls) gs (sym (ap (type_body_faults decls t.name.text) q) ∙ f.body)
 
 module _ (most : ℕ) (decls : List (Decl ℕ)) (p : Checked) (formed : IsFormed most decls) (good : BreaksNothing decls) (checked : IsChecked decls p) where
   abbrev unit : Scope
