@@ -12,8 +12,6 @@ use Rattle.st_tree.specs.declared.declaration.Item.{Item}
 use Rattle.st_tree.specs.declared.declaration.ProgramDecl.{ProgramDecl}
 use Rattle.st_tree.specs.declared.declaration.SectionSort.{SectionSort}
 use Rattle.st_tree.specs.declared.declaration.SectionSort.TheVariants as sort
-use Rattle.st_tree.specs.declared.declaration.TypeBody.TheVariants as body
-use Rattle.st_tree.specs.declared.declaration.TypeDecl.{TypeDecl}
 use Rattle.st_tree.specs.declared.program.Program.{Program as Checked}
 use Rattle.st_tree.specs.declared.program.RegionDecl.{RegionDecl}
 use Rattle.st_tree.specs.declared.unit.Decl.{Decl}
@@ -26,11 +24,11 @@ use Rattle.st_rules.specs.Numbered.{passes_if_there}
 use Rattle.st_rules.specs.Scope.{Scope, is_instance_sort}
 use Rattle.st_rules.proofs.Booleans.{both, false≢true}
 use Rattle.st_unit_rules.specs.Checked.{TypedRegion, IsChecked, unit_regions}
-use Rattle.st_unit_rules.specs.declared_names.Declarations.{Declaration, an_entry, a_global, an_interface, a_class, a_function, a_program, a_configuration, Region, of_global, of_instance, declarations, entries_in, programs_in}
+use Rattle.st_unit_rules.specs.declared_names.Declarations.{Declaration, an_entry, a_global, an_interface, a_class, a_function, a_program, a_configuration, Region, of_global, of_instance, declarations, programs_in}
 use Rattle.st_unit_rules.specs.declared_names.UnitNames.{unit_names, unit_scope, class_scope, program_scope}
 use Rattle.st_unit_rules.specs.declared_names.Variables.{Written, sections_written, sections_in, is_kept_written}
 use Rattle.st_unit_rules.specs.declared_names.WrittenTypes.{type_written, type_faults}
-use Rattle.st_unit_rules.specs.DeclarationRules.{class_home, group_faults, field_given, type_body_faults}
+use Rattle.st_unit_rules.specs.DeclarationRules.{class_home, group_faults, field_given}
 use Rattle.st_unit_rules.specs.UnitRefusal.{BreaksNothing}
 use Rattle.st_unit_rules.specs.VariableRules.{Home, of_class, of_block, of_program, of_routine, of_prototype, of_globals, may_hold_instances, holds_instances_told, class_held, is_abstract_class, makes_instances}
 use Rattle.st_values.specs.Program as seen
@@ -42,7 +40,7 @@ use Rattle.resolution_order.specs.told_laws.ToldLaws.{Every}
 use Rattle.accepted_texts.specs.formed_units.Formed.{IsFormed}
 use Rattle.accepted_texts.proofs.sized_units.Variables.{IsOf}
 use Rattle.accepted_texts.proofs.unfolding_laws.ChainLaws.{sections_typed}
-use Rattle.accepted_texts.proofs.unfolding_laws.CycleLaws.{none_in, none_of_each, not_when}
+use Rattle.accepted_texts.proofs.unfolding_laws.CycleLaws.{none_in, not_when}
 use Rattle.accepted_texts.proofs.unfolding_laws.ListLaws.{every_at, every_both, every_one, if_found, each_get}
 use Rattle.accepted_texts.proofs.unfolding_laws.RegionLaws.{OfRegion, OfGlobal, each_program, all_regions}
 use Rattle.constant_laws.specs.Given.{IsPart}
