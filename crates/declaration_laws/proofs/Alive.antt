@@ -12,8 +12,6 @@ use Rattle.st_tree.specs.declared.declaration.Item.{Item}
 use Rattle.st_tree.specs.declared.declaration.ProgramDecl.{ProgramDecl}
 use Rattle.st_tree.specs.declared.declaration.SectionSort.{SectionSort}
 use Rattle.st_tree.specs.declared.declaration.SectionSort.TheVariants as sort
-use Rattle.st_tree.specs.declared.declaration.TypeBody.TheVariants as body
-use Rattle.st_tree.specs.declared.declaration.TypeDecl.{TypeDecl}
 use Rattle.st_tree.specs.declared.program.Program.{Program as Checked}
 use Rattle.st_tree.specs.declared.program.RegionDecl.{RegionDecl}
 use Rattle.st_tree.specs.declared.unit.Decl.{Decl}
@@ -26,11 +24,11 @@ use Rattle.st_rules.specs.Numbered.{passes_if_there}
 use Rattle.st_rules.specs.Scope.{Scope, is_instance_sort}
 use Rattle.st_rules.proofs.Booleans.{both, false≢true}
 use Rattle.st_unit_rules.specs.Checked.{TypedRegion, IsChecked, unit_regions}
-use Rattle.st_unit_rules.specs.declared_names.Declarations.{Declaration, an_entry, a_global, an_interface, a_class, a_function, a_program, a_configuration, Region, of_global, of_instance, declarations, entries_in, programs_in}
+use Rattle.st_unit_rules.specs.declared_names.Declarations.{Declaration, an_entry, a_global, an_interface, a_class, a_function, a_program, a_configuration, Region, of_global, of_instance, declarations, programs_in}
 use Rattle.st_unit_rules.specs.declared_names.UnitNames.{unit_names, unit_scope, class_scope, program_scope}
 use Rattle.st_unit_rules.specs.declared_names.Variables.{Written, sections_written, sections_in, is_kept_written}
 use Rattle.st_unit_rules.specs.declared_names.WrittenTypes.{type_written, type_faults}
-use Rattle.st_unit_rules.specs.DeclarationRules.{class_home, group_faults, field_given, type_body_faults}
+use Rattle.st_unit_rules.specs.DeclarationRules.{class_home, group_faults, field_given}
 use Rattle.st_unit_rules.specs.UnitRefusal.{BreaksNothing}
 use Rattle.st_unit_rules.specs.VariableRules.{Home, of_class, of_block, of_program, of_routine, of_prototype, of_globals, may_hold_instances, holds_instances_told, class_held, is_abstract_class, makes_instances}
 use Rattle.st_values.specs.Program as seen
@@ -42,14 +40,14 @@ use Rattle.resolution_order.specs.told_laws.ToldLaws.{Every}
 use Rattle.accepted_texts.specs.formed_units.Formed.{IsFormed}
 use Rattle.accepted_texts.proofs.sized_units.Variables.{IsOf}
 use Rattle.accepted_texts.proofs.unfolding_laws.ChainLaws.{sections_typed}
-use Rattle.accepted_texts.proofs.unfolding_laws.CycleLaws.{none_in, none_of_each, not_when}
+use Rattle.accepted_texts.proofs.unfolding_laws.CycleLaws.{none_in, not_when}
 use Rattle.accepted_texts.proofs.unfolding_laws.ListLaws.{every_at, every_both, every_one, if_found, each_get}
 use Rattle.accepted_texts.proofs.unfolding_laws.RegionLaws.{OfRegion, OfGlobal, each_program, all_regions}
-use Rattle.declaration_laws.specs.Given.{IsPart}
-use Rattle.declaration_laws.proofs.Items.{ItemFine, WrittenFine, class_fine, sections_fine, program_fine, global_fine}
+use Rattle.constant_laws.specs.Given.{IsPart}
+use Rattle.initial_laws.proofs.Items.{ItemFine, WrittenFine, class_fine, sections_fine, program_fine, global_fine}
 use Rattle.declaration_laws.proofs.Living.{held-Instance, Lives, TypeLives, instance_lives}
-use Rattle.declaration_laws.proofs.Parts.{FieldOf, Says, groups_say, kept_says, parts_say}
-use Rattle.declaration_laws.proofs.Places.{IsGlobalSort, PlacedAt, all_at, rules_at, EntryFine, entries_fine, globals_are}
+use Rattle.initial_laws.proofs.Parts.{FieldOf, Says, groups_say, kept_says, parts_say}
+use Rattle.initial_laws.proofs.Places.{IsGlobalSort, PlacedAt, all_at, rules_at, structure_rules, globals_are}
 
 pub no_input : (h : Home) → may_hold_instances h sort.Input ≡ false
 no_input of_class = refl
@@ -104,12 +102,6 @@ module _ (decls : List (Decl ℕ)) where
       by : (o : Option (ClassDecl ℕ)) → slice_get (classes_in decls) (length (classes_in decls) + k) ≡ o → passes_if_there (λ (d : ClassDecl ℕ). is_abstract d.modifiers) o ≡ false
       by None e = refl
       by (Some d) e = let l = slice_get_within (classes_in decls) (length (classes_in decls) + k) d e in absurd (omega (arith, l))
-
-  -- the fields of a structure break no rule
-  pub structure_rules : BreaksNothing decls → (n : ℕ) (t : TypeDecl ℕ) (gs : List (FieldGroup ℕ)) → slice_get (entries_in decls) n ≡ Some t → t.body ≡ body.Structure gs → Every (λ g. group_faults decls g ≡ []) gs
-  structure_rules good n t gs e q =
-      let f = every_at (EntryFine decls good) (entries_in decls) n t (entries_fine decls good) e in
-      none_of_each (group_faults decls) gs (sym (ap (type_body_faults decls t.name.text) q) ∙ f.body)
 
 module _ (most : ℕ) (decls : List (Decl ℕ)) (p : Checked) (formed : IsFormed most decls) (good : BreaksNothing decls) (checked : IsChecked decls p) where
   abbrev unit : Scope

@@ -31,11 +31,11 @@ use Rattle.accepted_texts.proofs.told_units.Law.{program-rules}
 use Rattle.accepted_texts.proofs.unfolding_laws.ChainLaws.{sections_typed}
 use Rattle.accepted_texts.proofs.unfolding_laws.CycleLaws.{none_in, none_of_each, variable_not_deep}
 use Rattle.accepted_texts.proofs.unfolding_laws.ListLaws.{every_append, every_both, every_if_passing, every_means, every_passing, if_found, from_get}
-use Rattle.declaration_laws.proofs.Initials.{Knows}
-use Rattle.declaration_laws.proofs.Items.{class_fine}
-use Rattle.declaration_laws.proofs.Knowing.{inside, Facts, class_knows, program_knows, class_says, program_says}
+use Rattle.initial_laws.proofs.Initials.{Knows}
+use Rattle.initial_laws.proofs.Items.{class_fine}
+use Rattle.initial_laws.proofs.Knowing.{inside, Facts, class_knows, program_knows, class_says, program_says}
 use Rattle.declaration_laws.proofs.Locals.{local_is, temp_closed}
-use Rattle.declaration_laws.proofs.Places.{PlacedAt}
+use Rattle.initial_laws.proofs.Places.{PlacedAt}
 
 body_sorts : (so : SectionSort) → is_of_body so ≡ is_body_sort so
 body_sorts sort.Var = refl

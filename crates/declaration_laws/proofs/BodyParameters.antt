@@ -41,11 +41,11 @@ use Rattle.accepted_texts.proofs.sized_units.Variables.{IsOf, is_variable, all_o
 use Rattle.accepted_texts.proofs.unfolding_laws.ChainLaws.{chain_same, chain_there, sections_typed, class_seen, program_seen}
 use Rattle.accepted_texts.proofs.unfolding_laws.ListLaws.{There, every_append, every_at, every_both, every_from, every_means, every_passing, every_reversed, if_found, if_there, from_get}
 use Rattle.declaration_laws.proofs.Alive.{no_input, no_output}
-use Rattle.declaration_laws.proofs.Items.{IsLocalSort, sections_local}
-use Rattle.declaration_laws.proofs.Knowing.{Facts, class_says, program_says}
+use Rattle.initial_laws.proofs.Items.{IsLocalSort, sections_local}
+use Rattle.initial_laws.proofs.Knowing.{Facts, class_says, program_says}
 use Rattle.declaration_laws.proofs.Locals.{not_both, variable_sort}
-use Rattle.declaration_laws.proofs.NoInstances.{none_told}
-use Rattle.declaration_laws.proofs.Places.{PlacedAt}
+use Rattle.initial_laws.proofs.NoInstances.{none_told}
+use Rattle.initial_laws.proofs.Places.{PlacedAt}
 use Rattle.declaration_laws.proofs.Regions.{each_every}
 
 -- ---- where a parameter stands

@@ -35,8 +35,8 @@ use Rattle.class_laws.proofs.Above.{at_number, class_conforms, there}
 use Rattle.class_laws.proofs.Overrides.{placed}
 use Rattle.class_laws.proofs.Same.{conforms_same}
 use Rattle.declaration_laws.proofs.Alive.{living}
-use Rattle.declaration_laws.proofs.Items.{class_fine}
-use Rattle.declaration_laws.proofs.Names.{equal}
+use Rattle.initial_laws.proofs.Items.{class_fine}
+use Rattle.initial_laws.proofs.Names.{equal}
 
 numbered_false : {X : Type 0} (test : ℕ → X → Bool) (n : ℕ) (xs : List X) (i : ℕ) (x : X) → any_numbered test n xs ≡ false → slice_get xs i ≡ Some x → test (n + i) x ≡ false
 numbered_false test n [] i x h e = absurd (none≢some e)

@@ -22,7 +22,7 @@ use Rattle.st_values.proofs.ValueLaws.{then_some}
 use Rattle.st_meaning.specs.st_frame.Footprint.{Has}
 use Rattle.st_meaning.specs.st_frame.Promise.Calls.{HasInstance}
 use Rattle.accepted_texts.proofs.sized_units.Depths.{type_is}
-use Rattle.declaration_laws.specs.Given.{IsPart}
+use Rattle.constant_laws.specs.Given.{IsPart}
 
 pub held-Instance : (n : ℕ) → class_held (type.Instance n) ≡ Some n
 unfolding class_held

@@ -43,12 +43,12 @@ use Rattle.accepted_texts.proofs.unfolding_laws.ListLaws.{every_append, every_bo
 use Rattle.accepted_texts.proofs.unfolding_laws.NumberLaws.{ToldNumbered, written_numbered, unit_numbered}
 use Rattle.accepted_texts.proofs.unfolding_laws.ShapedLaws.{Shaped}
 use Rattle.accepted_texts.proofs.unfolding_laws.ViewLaws.{kind_shown}
-use Rattle.declaration_laws.specs.Given.{GivenIs}
-use Rattle.declaration_laws.proofs.Initials.{Knows}
-use Rattle.declaration_laws.proofs.Items.{IsLocalSort}
-use Rattle.declaration_laws.proofs.Knowing.{inside, Facts, all_given, written_begins}
-use Rattle.declaration_laws.proofs.NoInstances.{none_told, without}
-use Rattle.declaration_laws.proofs.Starts.{starts}
+use Rattle.constant_laws.specs.Given.{GivenIs}
+use Rattle.initial_laws.proofs.Initials.{Knows}
+use Rattle.initial_laws.proofs.Items.{IsLocalSort}
+use Rattle.initial_laws.proofs.Knowing.{inside, Facts, all_given, written_begins}
+use Rattle.initial_laws.proofs.NoInstances.{none_told, without}
+use Rattle.constant_laws.proofs.Starts.{starts}
 
 -- ---- where instances may be
 

@@ -36,10 +36,10 @@ use Rattle.accepted_texts.proofs.sized_units.Outputs.{every_has}
 use Rattle.accepted_texts.proofs.unfolding_laws.CycleLaws.{none_in, not_when, all_placed}
 use Rattle.accepted_texts.proofs.unfolding_laws.ListLaws.{every_append, every_both, every_flat, every_from, every_front, every_joined, every_mapped, every_means}
 use Rattle.class_laws.proofs.Above.{at_number, conforms_class, back}
-use Rattle.declaration_laws.proofs.Fields.{has_front, has_back}
-use Rattle.declaration_laws.proofs.Members.{all_has, mapped_has}
-use Rattle.declaration_laws.proofs.Names.{same_self, not_turned, Differ, Unique}
-use Rattle.declaration_laws.proofs.Places.{sorts_from}
+use Rattle.initial_laws.proofs.Fields.{has_front, has_back}
+use Rattle.initial_laws.proofs.Members.{all_has, mapped_has}
+use Rattle.initial_laws.proofs.Names.{same_self, not_turned, Differ, Unique}
+use Rattle.initial_laws.proofs.Places.{sorts_from}
 
 -- ---- each before those behind it
 

@@ -34,11 +34,11 @@ use Rattle.accepted_texts.proofs.sized_units.Variables.{given_same}
 use Rattle.accepted_texts.proofs.unfolding_laws.ListLaws.{every_at, every_both, every_from, every_one, if_found, each_get}
 use Rattle.accepted_texts.proofs.unfolding_laws.RegionLaws.{OfRegion, OfGlobal, all_regions}
 use Rattle.accepted_texts.proofs.unfolding_laws.UnfoldingLaws.{unfolding_laws}
-use Rattle.declaration_laws.specs.Given.{GivenIs}
-use Rattle.declaration_laws.proofs.Items.{ItemFine, global_fine}
-use Rattle.declaration_laws.proofs.Knowing.{all_told, all_given, unit_knows, given_is}
-use Rattle.declaration_laws.proofs.Places.{PlacedAt, all_at, rules_at}
-use Rattle.declaration_laws.proofs.Starts.{starts}
+use Rattle.constant_laws.specs.Given.{GivenIs}
+use Rattle.initial_laws.proofs.Items.{ItemFine, global_fine}
+use Rattle.initial_laws.proofs.Knowing.{all_told, all_given, unit_knows, given_is}
+use Rattle.initial_laws.proofs.Places.{PlacedAt, all_at, rules_at}
+use Rattle.constant_laws.proofs.Starts.{starts}
 
 -- what holds of each of a list
 pub each_every : {A : Type 0} (P : A → Type 0) (xs : List A) → Every P xs → Each P xs

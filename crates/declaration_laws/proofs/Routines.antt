@@ -47,12 +47,12 @@ use Rattle.accepted_texts.proofs.told_units.Law.{method-rules, function-rules}
 use Rattle.accepted_texts.proofs.unfolding_laws.CycleLaws.{none_in}
 use Rattle.accepted_texts.proofs.unfolding_laws.ListLaws.{every_at, every_from, front_get, back_get}
 use Rattle.class_laws.proofs.Parameters.{local_at}
-use Rattle.declaration_laws.proofs.Items.{sections_local}
-use Rattle.declaration_laws.proofs.Knowing.{inside, all_told, knows, sections_say}
+use Rattle.initial_laws.proofs.Items.{sections_local}
+use Rattle.initial_laws.proofs.Knowing.{inside, all_told, knows, sections_say}
 use Rattle.declaration_laws.proofs.Locals.{variables_are, result_is, in_order}
-use Rattle.declaration_laws.proofs.Places.{PlacedAt}
+use Rattle.initial_laws.proofs.Places.{PlacedAt}
 use Rattle.declaration_laws.proofs.Regions.{each_every}
-use Rattle.declaration_laws.proofs.Steps.{entry_values, written_sound}
+use Rattle.constant_laws.proofs.Steps.{entry_values, written_sound}
 
 -- ---- what the rules say of a routine
 

@@ -31,13 +31,13 @@ use Rattle.declaration_laws.specs.DeclarationLaws.{AreRight, DeclarationLaws}
 use Rattle.declaration_laws.proofs.Alive.{living}
 use Rattle.declaration_laws.proofs.Bodies.{block_locals, program_bodies}
 use Rattle.declaration_laws.proofs.BodyParameters.{block_parameters, program_parameters}
-use Rattle.declaration_laws.proofs.Items.{no_cycle}
-use Rattle.declaration_laws.proofs.Knowing.{programs_at}
-use Rattle.declaration_laws.proofs.Members.{nearest_has}
+use Rattle.initial_laws.proofs.Items.{no_cycle}
+use Rattle.initial_laws.proofs.Knowing.{programs_at}
+use Rattle.initial_laws.proofs.Members.{nearest_has}
 use Rattle.declaration_laws.proofs.Numbered.{numbered, conforms_itself}
-use Rattle.declaration_laws.proofs.Meanings.{scope_constants}
+use Rattle.initial_laws.proofs.Meanings.{scope_constants}
 use Rattle.declaration_laws.proofs.Implemented.{met}
-use Rattle.declaration_laws.proofs.Places.{PlacedAt, all_at, of_sorts}
+use Rattle.initial_laws.proofs.Places.{PlacedAt, all_at, of_sorts}
 use Rattle.declaration_laws.proofs.Regions.{each_every, regions_fit}
 use Rattle.declaration_laws.proofs.Routines.{method_locals, function_locals, parameters_are}
 

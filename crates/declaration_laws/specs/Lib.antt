@@ -1,3 +1,2 @@
-pub mod Given
 pub mod DeclarationsAre
 pub mod DeclarationLaws

@@ -18,8 +18,8 @@ use Rattle.st_meaning.specs.st_frame.Promise.Programs.{ProgramIs}
 use Rattle.accepted_texts.specs.formed_units.Formed.{IsFormed}
 use Rattle.accepted_texts.specs.told_units.Told.{WrittenIn, in_class, in_method, in_function, in_program}
 use Rattle.accepted_texts.proofs.formed_texts.Texts.{formed_text_laws}
-use Rattle.declaration_laws.proofs.Constants.{ConstantFits, MeantFits, ScopeFits}
-use Rattle.declaration_laws.proofs.Meanings.{written_fits}
+use Rattle.constant_laws.proofs.Constants.{ConstantFits, MeantFits, ScopeFits}
+use Rattle.initial_laws.proofs.Meanings.{written_fits}
 use Rattle.declaration_laws.proofs.Whole.{declaration_laws}
 use Rattle.place_laws.specs.Agrees.{ConstantIs}
 use Rattle.promise_laws.specs.BodiesAre.{BodiesAre}

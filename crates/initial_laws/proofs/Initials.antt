@@ -28,9 +28,9 @@ use Rattle.accepted_texts.proofs.formed_texts.Units.{has_names}
 use Rattle.accepted_texts.proofs.told_units.TypeLaws.{ValuesHaveTypes, holds-not}
 use Rattle.accepted_texts.proofs.told_units.Value.{breaks-none, comes-to}
 use Rattle.accepted_texts.proofs.unfolding_laws.CycleLaws.{none_in}
-use Rattle.declaration_laws.specs.Given.{NumberOf, PartNamed, InitialIs, PartsAre, FieldsAre}
-use Rattle.declaration_laws.proofs.Numbers.{OutcomeOf}
-use Rattle.declaration_laws.proofs.Constants.{ScopeFits, wanted_value}
+use Rattle.constant_laws.specs.Given.{NumberOf, PartNamed, InitialIs, PartsAre, FieldsAre}
+use Rattle.constant_laws.proofs.Numbers.{OutcomeOf}
+use Rattle.constant_laws.proofs.Constants.{ScopeFits, wanted_value}
 
 noted_by : (f : Note → Note) (e : Expression Note) → note_of (with_note f e) ≡ f (note_of e)
 noted_by f (Int a digits) = refl

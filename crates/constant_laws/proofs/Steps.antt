@@ -48,9 +48,9 @@ use Rattle.resolution_order.specs.told_laws.ToldLaws.{Every, TellsKind, TellsKin
 use Rattle.resolution_order.proofs.told_laws.Tells.{pick, one-append, members-tell, routine-tells, told-tells, names-tell, forgotten-tell}
 use Rattle.accepted_texts.specs.told_units.Told.{WrittenIn, in_class, in_method, in_function, in_prototype, in_program}
 use Rattle.accepted_texts.proofs.unfolding_laws.ListLaws.{if_there, each_get}
-use Rattle.declaration_laws.proofs.Numbers.{OutcomeOf, constant_number}
-use Rattle.declaration_laws.proofs.Constants.{ConstantFits, ValueFits, wanted_value}
-use Rattle.declaration_laws.proofs.Scopes.{GlobalFits, HaveValues, NamesFit, Sound, scope_fits, scope_types}
+use Rattle.constant_laws.proofs.Numbers.{OutcomeOf, constant_number}
+use Rattle.constant_laws.proofs.Constants.{ConstantFits, ValueFits, wanted_value}
+use Rattle.constant_laws.proofs.Scopes.{GlobalFits, HaveValues, NamesFit, Sound, scope_fits, scope_types}
 
 mapped_get : {X Y : Type 0} (f : X → Y) (xs : List X) (i : ℕ) (y : Y) → slice_get (map f xs) i ≡ Some y → (x : X) × (slice_get xs i ≡ Some x) × (y ≡ f x)
 mapped_get f [] i y e = absurd (none≢some e)

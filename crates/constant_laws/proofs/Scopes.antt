@@ -24,7 +24,7 @@ use Rattle.resolution_order.specs.told_laws.ToldLaws.{Every, TellsKind, TellsKin
 use Rattle.accepted_texts.proofs.told_units.ScopeLaws.{values-have-types}
 use Rattle.accepted_texts.proofs.told_units.TypeLaws.{ValuesHaveTypes}
 use Rattle.accepted_texts.proofs.unfolding_laws.ListLaws.{every_append}
-use Rattle.declaration_laws.proofs.Constants.{ValueFits, MeantFits, ScopeFits}
+use Rattle.constant_laws.proofs.Constants.{ValueFits, MeantFits, ScopeFits}
 
 pick : {X : Type 0} (P : X → Type 0) (b : Bool) (x y : X) → P x → P y → P (if b then x else y)
 pick P true x y h k = h

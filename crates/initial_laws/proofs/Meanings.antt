@@ -25,22 +25,17 @@ use Rattle.accepted_texts.specs.formed_units.Formed.{IsFormed}
 use Rattle.accepted_texts.specs.told_units.Told.{AllTold, WrittenIn}
 use Rattle.accepted_texts.proofs.told_units.TypeLaws.{HasItsType}
 use Rattle.place_laws.specs.Agrees.{ConstantIs}
-use Rattle.declaration_laws.proofs.Constants.{ConstantFits, MeantFits, ScopeFits}
-use Rattle.declaration_laws.proofs.Knowing.{all_told, some_told}
-use Rattle.declaration_laws.proofs.Scopes.{Sound, scope_fits, scope_types}
-use Rattle.declaration_laws.proofs.Steps.{entry_values, unit_sound, written_sound}
+use Rattle.constant_laws.proofs.Constants.{MeantFits, ScopeFits}
+use Rattle.initial_laws.proofs.Knowing.{all_told, some_told}
+use Rattle.constant_laws.proofs.Scopes.{Sound, scope_fits, scope_types}
+use Rattle.constant_laws.proofs.Steps.{entry_values, unit_sound, written_sound}
+use Rattle.constant_laws.proofs.Whole.{told_one}
 
 -- a constant with its type
 abbrev pub IsRight : Program → DeclaredVariable → Type 0
 IsRight p v = (t : StType) × (v.kind ≡ Some t) × ConstantIs p v.target t
 
 module _ (p : Program) where
-  told_one : (t : StType) (x : Target) → is_told x ≡ true → ConstantFits p t x → ConstantIs p x t
-  told_one t (target.Constant z) h f = f
-  told_one t (target.Enumerator k) h f = absurd f
-  told_one t target.Nothing h f = absurd (false≢true h)
-  told_one t _ h f = absurd (false≢true h)
-
   module _ (s : Scope) where
     no_method : (o : Option MethodId) (rest : Option Meant) (c : Option ℕ) (v : DeclaredVariable) → (option_map a_method o or_else rest) ≡ Some (a_variable c v) → rest ≡ Some (a_variable c v)
     no_method None rest c v e = e
@@ -72,7 +67,7 @@ module _ (p : Program) where
         let has : HasItsType (Some (a_variable c v)) = subst HasItsType q ((scope_types p s sound).each name) in
         let t = some_told v.kind (has k one) in
         let fits : MeantFits p (Some (a_variable c v)) = subst (MeantFits p) e ((scope_fits p s sound).each called name) in
-        (t.0, t.1, told_one t.0 v.target one (fits k t.0 t.1))
+        (t.0, t.1, told_one p t.0 v.target one (fits k t.0 t.1))
 
 module _ (most : ℕ) (decls : List (Decl ℕ)) (p : Checked) (fine : IsFormed most decls) (good : BreaksNothing decls) (checked : IsChecked decls p) where
   pub unit_constants : (called : Bool) (name : List ℕ) (c : Option ℕ) (v : DeclaredVariable) → sought (unit_scope decls (unit_names decls)) called name ≡ Some (a_variable c v) → v.constant ≡ true → IsRight (program_of p) v

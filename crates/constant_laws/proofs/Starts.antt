@@ -25,7 +25,7 @@ use Rattle.st_meaning.specs.st_frame.Footprint.{Has}
 use Rattle.st_meaning.specs.st_frame.Good.{Fit}
 use Rattle.st_meaning.specs.st_frame.Promise.Types.{NumberIs}
 use Rattle.st_meaning.specs.st_frame.Promise.Declarations.{StartsRight, StartRight, Each}
-use Rattle.declaration_laws.specs.Given.{IsPart, InitialIs, PartsAre, FieldsAre, GivenIs, AllGiven}
+use Rattle.constant_laws.specs.Given.{IsPart, InitialIs, PartsAre, FieldsAre, GivenIs, AllGiven}
 
 zero_fits : (e : Elem) → Fits e (pos 0)
 zero_fits elem.Bool = (omega (arith, ints), omega (arith, ints))

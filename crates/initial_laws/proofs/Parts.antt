@@ -39,7 +39,7 @@ use Rattle.accepted_texts.proofs.sized_units.Variables.{IsOf, given_same, kept_o
 use Rattle.accepted_texts.proofs.unfolding_laws.ChainLaws.{variables_every}
 use Rattle.accepted_texts.proofs.unfolding_laws.ViewLaws.{kind_shown}
 use Rattle.accepted_texts.proofs.unfolding_laws.ListLaws.{every_append, every_at, every_one, every_from, if_found, each_get, from_get}
-use Rattle.declaration_laws.specs.Given.{IsPart}
+use Rattle.constant_laws.specs.Given.{IsPart}
 
 -- ---- what an instance keeps, by what is written
 

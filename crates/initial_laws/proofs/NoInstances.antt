@@ -29,8 +29,8 @@ use Rattle.st_values.proofs.ValueLaws.{then_some}
 use Rattle.resolution_order.specs.told_laws.ToldLaws.{Every}
 use Rattle.accepted_texts.proofs.sized_units.Depths.{type_is}
 use Rattle.accepted_texts.proofs.unfolding_laws.CycleLaws.{none_in, not_when}
-use Rattle.declaration_laws.proofs.Alive.{structure_rules}
-use Rattle.declaration_laws.proofs.Parts.{FieldOf, FieldsSay, groups_say, structure_says}
+use Rattle.initial_laws.proofs.Places.{structure_rules}
+use Rattle.initial_laws.proofs.Parts.{FieldOf, FieldsSay, groups_say, structure_says}
 
 pub none_told : (o : Option StType) → holds_instances_told o ≡ false → holds_instances (told o) ≡ false
 unfolding told

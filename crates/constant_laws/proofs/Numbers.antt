@@ -35,7 +35,7 @@ use Rattle.st_meaning.proofs.st_frame.OfTypes.{wraps_fit, bit_fits}
 use Rattle.place_laws.specs.Agrees.{ConstantIs}
 use Rattle.place_laws.proofs.Operators.{elementary_is, unary_same, unary_taken}
 use Rattle.place_laws.proofs.Literals.{LiteralIs}
-use Rattle.declaration_laws.specs.Given.{NumberOf}
+use Rattle.constant_laws.specs.Given.{NumberOf}
 
 same_literal : (x : Literal) → literal_value x ≡ literal_number x
 same_literal (literal.Int digits) = refl

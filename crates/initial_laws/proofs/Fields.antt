@@ -39,9 +39,9 @@ use Rattle.accepted_texts.proofs.unfolding_laws.ListLaws.{every_at, every_joined
 use Rattle.accepted_texts.proofs.sized_units.Kept.{PartsAreTold}
 use Rattle.accepted_texts.proofs.sized_units.Outputs.{every_has}
 use Rattle.accepted_texts.proofs.unfolding_laws.ViewLaws.{kind_shown}
-use Rattle.declaration_laws.specs.Given.{PartNamed}
-use Rattle.declaration_laws.proofs.Names.{equal, Unique, space_unique, only_named}
-use Rattle.declaration_laws.proofs.Places.{EntryFine, entries_fine}
+use Rattle.constant_laws.specs.Given.{PartNamed}
+use Rattle.initial_laws.proofs.Names.{equal, Unique, space_unique, only_named}
+use Rattle.initial_laws.proofs.Places.{EntryFine, entries_fine}
 
 pub has_front : {X : Type 0} (xs ys : List X) (x : X) → Has xs x → Has (xs ++ ys) x
 has_front [] ys x h = absurd h

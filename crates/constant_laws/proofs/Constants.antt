@@ -34,7 +34,7 @@ use Rattle.accepted_texts.proofs.told_units.TypeLaws.{HasItsType, ValuesHaveType
 use Rattle.place_laws.specs.Agrees.{ConstantIs}
 use Rattle.place_laws.proofs.Operators.{operation}
 use Rattle.place_laws.proofs.Literals.{AsksForTold as AsksLiteral, int_is, negative_is, typed_is, time_is, null_held}
-use Rattle.declaration_laws.proofs.Numbers.{OutcomeOf, Right, number_of_type, literal_fits, literal_right, typed_right, lasting, held, unary, operated_of, assigned_number}
+use Rattle.constant_laws.proofs.Numbers.{OutcomeOf, Right, number_of_type, literal_fits, literal_right, typed_right, lasting, held, unary, operated_of, assigned_number}
 
 there : (o : Option StType) → is_some o ≡ true → (t : StType) × (o ≡ Some t)
 there None h = absurd (cc)

@@ -46,11 +46,11 @@ use Rattle.accepted_texts.proofs.unfolding_laws.ChainLaws.{chain_same, chain_the
 use Rattle.accepted_texts.proofs.unfolding_laws.CycleLaws.{none_in, none_of_each, not_when}
 use Rattle.accepted_texts.proofs.unfolding_laws.DeclaredLaws.{members_are}
 use Rattle.accepted_texts.proofs.unfolding_laws.ListLaws.{There, every_both, every_means, if_there, from_get}
-use Rattle.declaration_laws.specs.Given.{PartNamed}
-use Rattle.declaration_laws.proofs.Fields.{has_front, has_back, told_kind}
-use Rattle.declaration_laws.proofs.Items.{class_fine, on_no_cycle}
-use Rattle.declaration_laws.proofs.Names.{equal, same_self, space_unique, sections_unique, only_named}
-use Rattle.declaration_laws.proofs.Parts.{kept_says}
+use Rattle.constant_laws.specs.Given.{PartNamed}
+use Rattle.initial_laws.proofs.Fields.{has_front, has_back, told_kind}
+use Rattle.initial_laws.proofs.Items.{class_fine, on_no_cycle}
+use Rattle.initial_laws.proofs.Names.{equal, same_self, space_unique, sections_unique, only_named}
+use Rattle.initial_laws.proofs.Parts.{kept_says}
 
 -- ---- lists
 

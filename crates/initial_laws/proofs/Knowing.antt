@@ -55,16 +55,15 @@ use Rattle.accepted_texts.proofs.told_units.Names.{IsToldNamed, named}
 use Rattle.accepted_texts.proofs.unfolding_laws.ChainLaws.{sections_typed}
 use Rattle.accepted_texts.proofs.unfolding_laws.CycleLaws.{none_in}
 use Rattle.accepted_texts.proofs.unfolding_laws.ListLaws.{every_at, every_both, every_one, if_found, each_get}
-use Rattle.declaration_laws.specs.Given.{GivenIs, AllGiven}
-use Rattle.declaration_laws.proofs.Alive.{structure_rules}
-use Rattle.declaration_laws.proofs.Fields.{field_only, field_told}
-use Rattle.declaration_laws.proofs.Initials.{Knows, initial_is}
-use Rattle.declaration_laws.proofs.Items.{WrittenFine, WrittenFormed, sections_formed, sections_fine, class_fine}
-use Rattle.declaration_laws.proofs.Members.{member_only, member_told}
-use Rattle.declaration_laws.proofs.Parts.{FieldOf, Says, groups_say, kept_says, parts_say}
-use Rattle.declaration_laws.proofs.Places.{PlacedAt, all_at, of_sorts}
-use Rattle.declaration_laws.proofs.Scopes.{Sound, scope_fits, scope_types}
-use Rattle.declaration_laws.proofs.Steps.{entry_values, unit_sound, class_sound, written_sound}
+use Rattle.constant_laws.specs.Given.{GivenIs, AllGiven}
+use Rattle.initial_laws.proofs.Fields.{field_only, field_told}
+use Rattle.initial_laws.proofs.Initials.{Knows, initial_is}
+use Rattle.initial_laws.proofs.Items.{WrittenFine, WrittenFormed, sections_formed, sections_fine, class_fine}
+use Rattle.initial_laws.proofs.Members.{member_only, member_told}
+use Rattle.initial_laws.proofs.Parts.{FieldOf, Says, groups_say, kept_says, parts_say}
+use Rattle.initial_laws.proofs.Places.{structure_rules, PlacedAt, all_at, of_sorts}
+use Rattle.constant_laws.proofs.Scopes.{Sound, scope_fits, scope_types}
+use Rattle.constant_laws.proofs.Steps.{entry_values, unit_sound, class_sound, written_sound}
 
 first_type : (name : List ℕ) (ts : List DeclaredType) → Every (λ (t : DeclaredType). is_some t.kind ≡ true) ts → (d : DeclaredType) → type_named name ts ≡ Some d → is_some d.kind ≡ true
 first_type name [] h d e = absurd (none≢some e)

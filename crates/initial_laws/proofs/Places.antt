@@ -4,11 +4,13 @@ use Rattle.std.specs.Prelude.{flat_map, option_map, slice_get}
 use Rattle.std.proofs.lemmas.Option.{slice_get-map}
 use Rattle.st_tree.specs.declared.configuration.Resource.{Resource}
 use Rattle.st_tree.specs.declared.declaration.ClassDecl.{ClassDecl}
+use Rattle.st_tree.specs.declared.declaration.FieldGroup.{FieldGroup}
 use Rattle.st_tree.specs.declared.declaration.FunctionDecl.{FunctionDecl}
 use Rattle.st_tree.specs.declared.declaration.InterfaceDecl.{InterfaceDecl}
 use Rattle.st_tree.specs.declared.declaration.Item.{Item}
 use Rattle.st_tree.specs.declared.declaration.ProgramDecl.{ProgramDecl}
 use Rattle.st_tree.specs.declared.declaration.Section.{Section}
+use Rattle.st_tree.specs.declared.declaration.TypeBody.TheVariants as body
 use Rattle.st_tree.specs.declared.declaration.TypeDecl.{TypeDecl}
 use Rattle.st_tree.specs.declared.unit.Decl.{Decl}
 use Rattle.st_tree.specs.declared.unit.Decl.TheVariants as declaration
@@ -18,15 +20,15 @@ use Rattle.st_rules.specs.Interfaces.{interfaces_in}
 use Rattle.st_rules.proofs.Booleans.{none≢some, some-same}
 use Rattle.st_unit_rules.specs.declared_names.Declarations.{Declaration, an_entry, a_global, an_interface, a_class, a_function, a_program, Placed, declarations_of, declarations, placed, globals_of_item, globals_of_section, resource_globals, configuration_globals, entries_in, functions_in, programs_in}
 use Rattle.st_unit_rules.specs.declared_names.Variables.{Written, item_written}
-use Rattle.st_unit_rules.specs.DeclarationRules.{sort_faults, type_body_faults}
+use Rattle.st_unit_rules.specs.DeclarationRules.{group_faults, sort_faults, type_body_faults}
 use Rattle.st_unit_rules.specs.NameRules.{space_faults, part_names}
 use Rattle.st_unit_rules.specs.UnitRefusal.{BreaksNothing}
 use Rattle.resolution_order.specs.told_laws.ToldLaws.{Every}
 use Rattle.accepted_texts.specs.formed_units.Formed as formed
 use Rattle.accepted_texts.specs.formed_units.Formed.{FormedItem, FormedGlobals, FormedDecl, IsFormed}
 use Rattle.accepted_texts.proofs.formed_texts.Units.{over}
-use Rattle.accepted_texts.proofs.unfolding_laws.CycleLaws.{none_in, none_there, all_placed}
-use Rattle.accepted_texts.proofs.unfolding_laws.ListLaws.{every_append, every_back, every_front, every_from, every_map, every_mapped, every_joined, every_means, every_one}
+use Rattle.accepted_texts.proofs.unfolding_laws.CycleLaws.{none_in, none_of_each, none_there, all_placed}
+use Rattle.accepted_texts.proofs.unfolding_laws.ListLaws.{every_append, every_at, every_back, every_front, every_from, every_map, every_mapped, every_joined, every_means, every_one}
 
 -- what holds of each declaration holds of those of each sort
 pub record OfSorts (P : Declaration → Type 0) (ds : List (Decl ℕ)) : Type 0 where
@@ -98,6 +100,12 @@ module _ (decls : List (Decl ℕ)) where
 
     pub entries_fine : Every EntryFine (entries_in decls)
     entries_fine = every_means (λ (t : TypeDecl ℕ). PlacedAt (an_entry t)) EntryFine entry_fine (entries_in decls) (of_sorts PlacedAt decls all_at).entries
+
+    -- the fields of a structure break no rule
+    pub structure_rules : (n : ℕ) (t : TypeDecl ℕ) (gs : List (FieldGroup ℕ)) → slice_get (entries_in decls) n ≡ Some t → t.body ≡ body.Structure gs → Every (λ g. group_faults decls g ≡ []) gs
+    structure_rules n t gs e q =
+        let f = every_at EntryFine (entries_in decls) n t entries_fine e in
+        none_of_each (group_faults decls) gs (sym (ap (type_body_faults decls t.name.text) q) ∙ f.body)
 
 -- ---- globals of a formed unit stand in sections of globals
 
