@@ -1,0 +1,5 @@
+pub mod NumberLists
+pub mod TurnSteps
+pub mod NumberSteps
+pub mod PassLaws
+pub mod CycleLaws

@@ -1,0 +1,5 @@
+pub mod Known
+pub mod Rule
+pub mod Plant
+pub mod Split
+pub mod Cycles
