@@ -42,9 +42,9 @@ use Rattle.class_laws.proofs.Same.{methods_each}
 use Rattle.place_laws.specs.Agrees.{Agrees}
 use Rattle.promise_laws.specs.BodiesAre.{BodyIs, BodiesAre}
 use Rattle.scope_laws.specs.Agreement.{HasNumbers, MeetsInterfaces}
-use Rattle.scope_laws.proofs.Found.{MethodShown}
+use Rattle.name_laws.proofs.Found.{MethodShown}
 use Rattle.scope_laws.proofs.Instances.{method_agrees, function_agrees, body_agrees, program_agrees}
-use Rattle.scope_laws.proofs.Stands.{class_formed, method_formed, function_stands, program_stands}
+use Rattle.name_laws.proofs.Stands.{class_formed, method_formed, function_stands, program_stands}
 use Rattle.scope_laws.proofs.Texts.{method_body, function_body}
 use Rattle.statement_laws.proofs.Bodies.{statements}
 

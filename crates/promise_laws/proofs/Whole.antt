@@ -26,7 +26,7 @@ use Rattle.promise_laws.specs.BodiesAre.{BodiesAre}
 use Rattle.promise_laws.proofs.Bodies.{bodies_are}
 use Rattle.promise_laws.proofs.Joined.{program_is}
 use Rattle.scope_laws.specs.Agreement.{HasNumbers, MeetsInterfaces}
-use Rattle.scope_laws.proofs.Stands.{function_stands, program_stands}
+use Rattle.name_laws.proofs.Stands.{function_stands, program_stands}
 use Rattle.scope_laws.proofs.Texts.{class_rules_good}
 
 -- what is told of a constant is a number of its type

@@ -52,10 +52,10 @@ use Rattle.class_laws.proofs.Above.{NoCycle, variables_above, back}
 use Rattle.class_laws.proofs.Derived.{derived_begins}
 use Rattle.place_laws.specs.Agrees.{Declares, FillsBy, TakesBy, Gives, Runs}
 use Rattle.scope_laws.proofs.Entered.{conforming}
-use Rattle.scope_laws.proofs.Members.{class_typed, kept_by, body_locals, locals_above}
-use Rattle.scope_laws.proofs.Routines.{told_there as kind_there, kind_seen}
-use Rattle.scope_laws.proofs.Rows.{From, from_first, from_next, inside_of, no_constant, no_external, Headed, first_of, skipped}
-use Rattle.scope_laws.proofs.Stands.{IsInside, sections_inside, members_inside, class_formed}
+use Rattle.name_laws.proofs.Members.{class_typed, kept_by, body_locals, locals_above}
+use Rattle.name_laws.proofs.Routines.{told_there as kind_there, kind_seen}
+use Rattle.name_laws.proofs.Rows.{From, from_first, from_next, inside_of, no_constant, no_external, Headed, first_of, skipped}
+use Rattle.name_laws.proofs.Stands.{IsInside, sections_inside, members_inside, class_formed}
 use Rattle.scope_laws.proofs.Texts.{class_there}
 
 -- ---- what a body declares, along its classes

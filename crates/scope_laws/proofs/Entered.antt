@@ -55,8 +55,8 @@ use Rattle.class_laws.proofs.Overrides.{chain_found}
 use Rattle.class_laws.proofs.Signed.{parameters_same}
 use Rattle.place_laws.specs.Agrees.{FillsBy, TakesBy, Gives, ToldOutcome, Runs}
 use Rattle.scope_laws.specs.Agreement.{MeetsInterfaces}
-use Rattle.scope_laws.proofs.Found.{same_is, is_same, MethodShown, own_found, LookedUp, looked_up, PrototypeShown, PrototypeFound, prototype_found}
-use Rattle.scope_laws.proofs.Routines.{declared_takes, routine_takes, few_parameters, told_result, routine_gives}
+use Rattle.name_laws.proofs.Found.{same_is, is_same, MethodShown, own_found, LookedUp, looked_up, PrototypeShown, PrototypeFound, prototype_found}
+use Rattle.name_laws.proofs.Routines.{declared_takes, routine_takes, few_parameters, told_result, routine_gives}
 use Rattle.scope_laws.proofs.Texts.{method_text, function_text, prototype_text, SameParameter, AlikeRoutines, alike_itself, alike_through, texts_alike, method_there, prototype_there, method_signature, interface_signature}
 
 -- ---- one routine for another

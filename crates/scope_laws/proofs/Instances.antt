@@ -42,13 +42,13 @@ use Rattle.accepted_texts.proofs.sized_units.Variables.{all_of}
 use Rattle.class_laws.proofs.Above.{NoCycle}
 use Rattle.place_laws.specs.Agrees.{HasPlace, Agrees}
 use Rattle.scope_laws.specs.Agreement.{HasNumbers, MeetsInterfaces}
-use Rattle.scope_laws.proofs.Found.{MethodShown}
-use Rattle.scope_laws.proofs.PlaceTypes.{KindFine, ToldFine, written_fine, rows_fine}
-use Rattle.scope_laws.proofs.Members.{body_locals}
-use Rattle.scope_laws.proofs.Routines.{kind_seen, local_placed}
-use Rattle.scope_laws.proofs.Rows.{From, outside, MemberRow, members_seen, found_named}
+use Rattle.name_laws.proofs.Found.{MethodShown}
+use Rattle.name_laws.proofs.PlaceTypes.{KindFine, ToldFine, written_fine, rows_fine}
+use Rattle.name_laws.proofs.Members.{body_locals}
+use Rattle.name_laws.proofs.Routines.{kind_seen, local_placed}
+use Rattle.name_laws.proofs.Rows.{From, outside, MemberRow, members_seen, found_named}
 use Rattle.scope_laws.proofs.Scopes.{agrees}
-use Rattle.scope_laws.proofs.Stands.{sections_inside, program_stands}
+use Rattle.name_laws.proofs.Stands.{sections_inside, program_stands}
 use Rattle.scope_laws.proofs.Texts.{method_text, function_text}
 
 all_from : (vs : List Variable) → From vs vs 0

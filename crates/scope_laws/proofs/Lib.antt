@@ -1,11 +1,3 @@
-pub mod Rows
-pub mod Stands
-pub mod Members
-pub mod Globals
-pub mod Fields
-pub mod PlaceTypes
-pub mod Routines
-pub mod Found
 pub mod Texts
 pub mod Entered
 pub mod Blocks

@@ -69,12 +69,12 @@ use Rattle.place_laws.proofs.Places.{told_as}
 use Rattle.scope_laws.specs.Agreement.{HasNumbers, MeetsInterfaces}
 use Rattle.scope_laws.proofs.Blocks as Blocks
 use Rattle.scope_laws.proofs.Entered.{lookup_range, function_runs, method_runs, interface_runs}
-use Rattle.scope_laws.proofs.Fields.{field_shown}
-use Rattle.scope_laws.proofs.Globals.{GlobalAt, globals_are}
-use Rattle.scope_laws.proofs.PlaceTypes.{KindFine, place_named}
-use Rattle.scope_laws.proofs.Members.{class_typed, body_locals, class_rows, locals_above}
-use Rattle.scope_laws.proofs.Routines.{told_there, kind_seen}
-use Rattle.scope_laws.proofs.Rows.{outside, SeenAt, MemberRow, found_row, found_named, every_named}
+use Rattle.name_laws.proofs.Fields.{field_shown}
+use Rattle.name_laws.proofs.Globals.{GlobalAt, globals_are}
+use Rattle.name_laws.proofs.PlaceTypes.{KindFine, place_named}
+use Rattle.name_laws.proofs.Members.{class_typed, body_locals, class_rows, locals_above}
+use Rattle.name_laws.proofs.Routines.{told_there, kind_seen}
+use Rattle.name_laws.proofs.Rows.{outside, SeenAt, MemberRow, found_row, found_named, every_named}
 
 -- ---- in-outs among parameters
 

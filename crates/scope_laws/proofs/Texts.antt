@@ -68,7 +68,7 @@ use Rattle.accepted_texts.proofs.told_units.Law.{function-rules, method-rules, p
 use Rattle.accepted_texts.proofs.told_units.Whole.{class-rules}
 use Rattle.accepted_texts.proofs.sized_units.Variables.{each_append}
 use Rattle.class_laws.proofs.Signed.{sort_same}
-use Rattle.scope_laws.proofs.Stands.{IsInside, sections_inside, function_stands, interface_stands, method_formed, prototype_formed}
+use Rattle.name_laws.proofs.Stands.{IsInside, sections_inside, function_stands, interface_stands, method_formed, prototype_formed}
 
 -- ---- what is asked of a text with its result and its sections
 

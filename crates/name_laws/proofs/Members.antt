@@ -25,8 +25,8 @@ use Rattle.accepted_texts.proofs.unfolding_laws.ListLaws.{There, Behind, all_beh
 use Rattle.accepted_texts.proofs.unfolding_laws.ChainLaws.{chain_there, chain_same, sections_typed, class_seen}
 use Rattle.accepted_texts.proofs.sized_units.Variables.{IsOf, is_variable, test_twice, all_of, those_of, kept_of}
 use Rattle.class_laws.proofs.Above.{NoCycle, EndsWith, chain_ends}
-use Rattle.scope_laws.proofs.Rows.{from_behind, MemberRow, members_seen}
-use Rattle.scope_laws.proofs.Stands.{sections_inside, members_inside, class_formed}
+use Rattle.name_laws.proofs.Rows.{from_behind, MemberRow, members_seen}
+use Rattle.name_laws.proofs.Stands.{sections_inside, members_inside, class_formed}
 
 body_sorts : (c : Bool) (so : SectionSort) → ((not c && not (is_external so)) && is_of_body so) ≡ (is_body_sort so && not c)
 body_sorts true sort.Var = refl

@@ -34,8 +34,8 @@ use Rattle.accepted_texts.proofs.told_units.Inner.{IsRow, AreRows, locals-rows}
 use Rattle.accepted_texts.proofs.sized_units.Variables.{IsOf, is_variable, test_twice, all_of, those_of}
 use Rattle.place_laws.specs.Agrees.{Declares, FillsBy, TakesBy, Gives, ToldOutcome, HasPlace}
 use Rattle.place_laws.proofs.Places.{told_as}
-use Rattle.scope_laws.proofs.Rows.{From, from_behind, from_front, from_first, from_next, here, past, parameter_inside, no_parameter, inside_of, no_constant, no_external, Headed, first_of, skipped, LocalRow, locals_seen, found_named}
-use Rattle.scope_laws.proofs.Stands.{IsInside}
+use Rattle.name_laws.proofs.Rows.{From, from_behind, from_front, from_first, from_next, here, past, parameter_inside, no_parameter, inside_of, no_constant, no_external, Headed, first_of, skipped, LocalRow, locals_seen, found_named}
+use Rattle.name_laws.proofs.Stands.{IsInside}
 
 and_false : (b : Bool) → (b && false) ≡ false
 and_false true = refl

@@ -28,7 +28,7 @@ use Rattle.resolution_order.specs.told_laws.ToldLaws.{Every}
 use Rattle.accepted_texts.proofs.unfolding_laws.ListLaws.{There, there_below, if_there, if_found, each_get}
 use Rattle.accepted_texts.proofs.unfolding_laws.ChainLaws.{chain_there, chain_same, class_seen}
 use Rattle.class_laws.proofs.Same.{methods_each, interface_lookup_same}
-use Rattle.scope_laws.proofs.Members.{class_typed}
+use Rattle.name_laws.proofs.Members.{class_typed}
 
 pub same_is : (a b : List ℕ) → same a b ≡ true → a ≡ b
 same_is a b h = (bytes_eq-Decides a b).0 h

@@ -49,10 +49,10 @@ use Rattle.accepted_texts.proofs.unfolding_laws.DeclaredLaws.{variables_in_class
 use Rattle.accepted_texts.proofs.unfolding_laws.ChainLaws.{class_seen}
 use Rattle.accepted_texts.proofs.unfolding_laws.NumberLaws.{IsClass, IsInterface, NumberedBy, NumberedWithin, Numbered, ToldNumbered, element_numbered, written_numbered, unit_numbered}
 use Rattle.accepted_texts.proofs.told_units.Inner.{AreRows, members-rows}
-use Rattle.scope_laws.proofs.Rows.{every_named}
-use Rattle.scope_laws.proofs.Fields.{field_shown}
-use Rattle.scope_laws.proofs.Globals.{GlobalAt, globals_are}
-use Rattle.scope_laws.proofs.Members.{class_typed}
+use Rattle.name_laws.proofs.Rows.{every_named}
+use Rattle.name_laws.proofs.Fields.{field_shown}
+use Rattle.name_laws.proofs.Globals.{GlobalAt, globals_are}
+use Rattle.name_laws.proofs.Members.{class_typed}
 
 interface_seen : (is : List (InterfaceDecl Note)) (n : ℕ) (ds : List (InterfaceDecl Note)) (i : ℕ) (d : InterfaceDecl Note) → slice_get ds i ≡ Some d → (k : Interface) × (slice_get (interfaces_from is n ds) i ≡ Some k)
 interface_seen is n [] i d e = absurd (none≢some e)
