@@ -48,7 +48,7 @@ is_name [] h = h
 is_name (c ∷ cs) h = tt
 
 mutual
-  has_names : (e : Expression ℕ) → Formed e → HasNames e
+  pub has_names : (e : Expression ℕ) → Formed e → HasNames e
   has_names (Call l r ss xs) h = have_names xs h.1.1
   has_names (Paren l e) h = has_names e h
   has_names (Not l e) h = has_names e h
@@ -112,7 +112,7 @@ methods_formed [] h = tt
 methods_formed (member.Method m ∷ ms) h = (h.0, methods_formed ms h.1)
 methods_formed (member.Section x ∷ ms) h = methods_formed ms h.1
 
-sections_formed : (ms : List (Member ℕ)) → formed.Every FormedMember ms → formed.Every FormedVars (sections_in ms)
+pub sections_formed : (ms : List (Member ℕ)) → formed.Every FormedMember ms → formed.Every FormedVars (sections_in ms)
 sections_formed [] h = tt
 sections_formed (member.Section x ∷ ms) h = (h.0, sections_formed ms h.1)
 sections_formed (member.Method m ∷ ms) h = sections_formed ms h.1
@@ -167,18 +167,18 @@ module _ (most : ℕ) where
     unfolding declarations
     all_parts = every_joined FormedPart declarations_of decls (over (FormedDecl most) (λ d. Every FormedPart (declarations_of d)) decl_parts decls h)
 
-    part_at : (i : ℕ) (x : Placed) (d : Declaration) → slice_get (placed decls) i ≡ Some x → x.declaration ≡ d → FormedPart d
+    pub part_at : (i : ℕ) (x : Placed) (d : Declaration) → slice_get (placed decls) i ≡ Some x → x.declaration ≡ d → FormedPart d
     part_at i x d e q =
         subst FormedPart q
         (every_at (λ (y : Placed). FormedPart y.declaration) (placed decls) i x (every_map FormedPart (λ (y : Placed). y.declaration) (placed decls) (subst (Every FormedPart) (sym (all_placed decls)) all_parts)) e)
 
-    class_at : (c : ℕ) (d : ClassDecl ℕ) → slice_get (classes_in decls) c ≡ Some d → FormedClass d
+    pub class_at : (c : ℕ) (d : ClassDecl ℕ) → slice_get (classes_in decls) c ≡ Some d → FormedClass d
     class_at c d e = every_at FormedClass (classes_in decls) c d (classes_formed decls h) e
 
-    method_at : (c : ℕ) (d : ClassDecl ℕ) (k : ℕ) (m : Method ℕ) → slice_get (classes_in decls) c ≡ Some d → slice_get (methods_in d.members) k ≡ Some m → FormedMethod m
+    pub method_at : (c : ℕ) (d : ClassDecl ℕ) (k : ℕ) (m : Method ℕ) → slice_get (classes_in decls) c ≡ Some d → slice_get (methods_in d.members) k ≡ Some m → FormedMethod m
     method_at c d k m e f = every_at FormedMethod (methods_in d.members) k m (methods_formed d.members (class_at c d e).members) f
 
-    prototype_at : (i : ℕ) (x : Placed) (d : InterfaceDecl ℕ) (k : ℕ) (m : Prototype ℕ) → slice_get (placed decls) i ≡ Some x → x.declaration ≡ an_interface d → slice_get d.methods k ≡ Some m → FormedPrototype m
+    pub prototype_at : (i : ℕ) (x : Placed) (d : InterfaceDecl ℕ) (k : ℕ) (m : Prototype ℕ) → slice_get (placed decls) i ≡ Some x → x.declaration ≡ an_interface d → slice_get d.methods k ≡ Some m → FormedPrototype m
     prototype_at i x d k m e q f = every_at FormedPrototype d.methods k m (over FormedPrototype FormedPrototype (λ y j. j) d.methods (part_at i x (an_interface d) e q).methods) f
 
     result_formed : (o : Option (TypeSpec ℕ)) → FormedResult o → IsFormedResult o

@@ -37,7 +37,7 @@ found_named {X = X} name_of name (x ∷ xs) k e = by (found_named name_of name x
         let r = f m.0 m.1 in
         (r.0, ap (slice_get (x ∷ xs)) (sym m.2) ∙ r.1, r.2)
 
-same_turned : (a b : List ℕ) → same a b ≡ true → same b a ≡ true
+pub same_turned : (a b : List ℕ) → same a b ≡ true → same b a ≡ true
 same_turned a b h = (bytes_eq-Decides b a).1 (sym ((bytes_eq-Decides a b).0 h))
 
 -- the name stands among these

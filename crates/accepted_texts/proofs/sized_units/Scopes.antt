@@ -27,14 +27,14 @@ module _ (s : Scope) (c : Option ℕ) (m : Bool) (ls : List DeclaredVariable) wh
   kinds_same (None ∷ os) = kinds_same os
   kinds_same (Some t ∷ os) = ap (λ ts. t ∷ ts) (kinds_same os)
 
-  parts_same : (n : ℕ) → parts_of elsewhere n ≡ parts_of s n
+  pub parts_same : (n : ℕ) → parts_of elsewhere n ≡ parts_of s n
   unfolding parts_in
   parts_same n = let one : parts_of elsewhere n ≡ parts_in (slice_get s.names.parts n) = refl in let two : parts_in (slice_get s.names.parts n) ≡ parts_of s n = refl in one ∙ two
 
   fields_same : (n : ℕ) → field_kinds elsewhere n ≡ field_kinds s n
   fields_same n = kinds_same (map (λ (f : DeclaredField). f.kind) (field_list (parts_of elsewhere n))) ∙ ap (λ p. kinds_told s (map (λ (f : DeclaredField). f.kind) (field_list p))) (parts_same n)
 
-  variables_same : (k : ℕ) → variables_of elsewhere k ≡ variables_of s k
+  pub variables_same : (k : ℕ) → variables_of elsewhere k ≡ variables_of s k
   unfolding variables_in_class
   variables_same k = let one : variables_of elsewhere k ≡ variables_in_class (slice_get s.names.classes k) = refl in let two : variables_in_class (slice_get s.names.classes k) ≡ variables_of s k = refl in one ∙ two
 
@@ -65,7 +65,7 @@ module _ (s : Scope) (c : Option ℕ) (m : Bool) (ls : List DeclaredVariable) wh
   composite_same (StType-F.Reference k) = refl
   composite_same (StType-F.Interface k) = refl
 
-  depth_same : (n : ℕ) (t : StType) → has_depth elsewhere n t ≡ has_depth s n t
+  pub depth_same : (n : ℕ) (t : StType) → has_depth elsewhere n t ≡ has_depth s n t
   depth_same zero t = composite_same (out-StType t)
   depth_same (suc n) t =
       ap (λ b. b && list_any (has_depth elsewhere n) (contents elsewhere (out-StType t))) (composite_same (out-StType t))

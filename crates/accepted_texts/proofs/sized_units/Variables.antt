@@ -1,20 +1,24 @@
 -- The variables of sections as a checked program shows them are, one by one, those that the unit writes there.
-use Rattle.std.proofs.Common.{◌≡◌, ℕ, Bool, true, false, List, [], ◌∷◌, ◌++◌, map, None, refl, sym, ap, ◌∙◌, subst}
-use Rattle.std.specs.Prelude.{if◌then◌else◌, not, ◌&&◌, flat_map, filter}
+use Rattle.std.proofs.Common.{◌≡◌, ℕ, Bool, true, false, List, [], ◌∷◌, ◌++◌, map, Option, Some, None, refl, sym, ap, ◌∙◌, subst}
+use Rattle.std.specs.Prelude.{if◌then◌else◌, not, ◌&&◌, flat_map, filter, option_map}
 use Rattle.std.proofs.lemmas.List.Elements.{filter-append}
 use Rattle.st_tree.specs.declared.declaration.Item.{Item}
 use Rattle.st_tree.specs.declared.declaration.Section.{Section}
 use Rattle.st_tree.specs.declared.declaration.SectionSort.{SectionSort}
 use Rattle.st_tree.specs.declared.declaration.SectionSort.TheVariants as sort
+use Rattle.st_tree.specs.declared.initial.Init.{Init}
 use Rattle.st_tree.specs.declared.marks.Marks.{Marks}
 use Rattle.st_tree.specs.declared.name.Name.{Name}
 use Rattle.st_tree.specs.declared.program.Note.{Note}
+use Rattle.st_tree.specs.declared.type_spec.TypeSpec.{TypeSpec}
+use Rattle.st_tree.specs.Initial.{initial_of}
 use Rattle.st_rules.specs.Expressions.{told}
 use Rattle.st_rules.specs.Modifiers.{is_constant}
 use Rattle.st_rules.specs.Scope.{Scope, is_external, is_instance_sort}
 use Rattle.st_unit_rules.specs.declared_names.Variables.{Written, item_written, section_written, sections_written, is_kept_written, declares_constants}
 use Rattle.st_unit_rules.specs.declared_names.WrittenTypes.{type_written}
-use Rattle.st_unit_rules.specs.Checked.{Each, TypedItem, TypedSection}
+use Rattle.st_unit_rules.specs.Checked.{Each, IfThere, TypedInitial, TypedItem, TypedSection}
+use Rattle.st_unit_rules.specs.Initials.{typed_initial}
 use Rattle.st_values.specs.Program.{Variable}
 use Rattle.st_values.specs.View.{kind_of, initial_in, named_variables, items_in, sorted_items, variables_in, is_kept, those}
 use Rattle.accepted_texts.proofs.unfolding_laws.ViewLaws.{kind_shown}
@@ -45,7 +49,14 @@ module _ (s : Scope) where
     pub sort : v.sort ≡ w.sort
     pub name : v.name ≡ w.name.text
     pub kind : v.kind ≡ told (type_written s w.item.kind)
+    pub initial : v.initial ≡ option_map (λ i. typed_initial s (type_written s w.item.kind) (initial_of i)) w.item.initial
     pub address : v.address ≡ w.item.address
+
+  pub given_same : (t : TypeSpec ℕ) (i : Option (Init ℕ)) (j : Option (Init Note)) → IfThere (TypedInitial s t) i j → initial_in j ≡ option_map (λ k. typed_initial s (type_written s t) (initial_of k)) i
+  given_same t None None h = refl
+  given_same t None (Some j) h = absurd h
+  given_same t (Some i) None h = absurd h
+  given_same t (Some i) (Some j) h = ap Some h
 
   one_more : (v : Variable) (w : Written) (vs : List Variable) (ws : List Written) (b : Bool) → b ≡ true → IsOf v w → Each IsOf vs ws → Each IsOf (v ∷ vs) (if b then w ∷ ws else ws)
   one_more v w vs ws true e h k = (h, k)
@@ -67,6 +78,7 @@ module _ (s : Scope) where
           sort = sym (fs n ∙ same);
           name = ap (λ (k : Name). k.text) (sym (fn n));
           kind = kind_shown s a.kind b.kind w.kind ∙ ap (λ (i : Item ℕ). told (type_written s i.kind)) (sym (fi n));
+          initial = given_same a.kind a.initial b.initial w.initial ∙ ap (λ (i : Item ℕ). option_map (λ k. typed_initial s (type_written s i.kind) (initial_of k)) i.initial) (sym (fi n));
           address = w.address ∙ ap (λ (i : Item ℕ). i.address) (sym (fi n));
         } in
         one_more v (f n) (named_variables so b (record m { renamed_from = None }) ns) (filter is_variable (map f ns)) (is_variable (f n)) test this (names_of a b w (record m { renamed_from = None }) ns f fs fc fn fi)

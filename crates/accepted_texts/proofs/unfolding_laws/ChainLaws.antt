@@ -70,7 +70,7 @@ module _ (decls : List (Decl ℕ)) where
     base_in c (Some a) None h = absurd h
     base_in c (Some a) (Some b) h = base_named a.base b.base h.base
 
-    base_same : (c : ℕ) → base_of ys c ≡ base_of xs c
+    pub base_same : (c : ℕ) → base_of ys c ≡ base_of xs c
     base_same c = base_in (0 + c) (slice_get xs c) (slice_get ys c) (from_get (TypedClass decls) 0 xs ys c each)
 
     pub chain_same : (c : ℕ) → chain ys c ≡ chain xs c

@@ -1,0 +1,10 @@
+pub mod Living
+pub mod Alive
+pub mod Regions
+pub mod Implemented
+pub mod Locals
+pub mod Routines
+pub mod Whole
+pub mod Numbered
+pub mod Bodies
+pub mod BodyParameters

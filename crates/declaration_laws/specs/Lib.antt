@@ -1,0 +1,2 @@
+pub mod DeclarationsAre
+pub mod DeclarationLaws

@@ -1,0 +1,11 @@
+pub mod Items
+pub mod Parts
+pub mod Places
+pub mod Names
+pub mod Fields
+pub mod Members
+pub mod Initials
+pub mod Knowing
+pub mod NoInstances
+pub mod Meanings
+pub mod Whole

@@ -1,0 +1,9 @@
+pub mod Words
+pub mod Notes
+pub mod Operators
+pub mod Literals
+pub mod Places
+pub mod Heart
+pub mod Whole
+pub mod Params
+pub mod Once

@@ -1,0 +1,2 @@
+pub mod BodiesAre
+pub mod PromiseLaws
