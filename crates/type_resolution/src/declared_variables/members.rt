@@ -107,6 +107,15 @@ pub fn declared_members(
     Ok(list)
 }
 
+/// The variables that the sections of a program declare, of which nothing is told.
+fn untold_of(alloc: Global, sections: &[Section<u32>]) -> Result<Series<DeclaredVariable>, NoMemory>
+    ensures { IfOk result (λ vs. vs ≡ untold_members 0 0 (sections_written sections.now)) }
+{
+    let written = written_names(alloc, sections)?;
+    let untold = untold_members(alloc, 0, 0, &written)?;
+    Ok(untold)
+}
+
 /// The variables that the sections of a program declare.
 pub fn declared_program(
     alloc: Global,
@@ -115,9 +124,7 @@ pub fn declared_program(
 ) -> Result<Series<DeclaredVariable>, NoMemory>
     ensures { IfOk result (λ vs. vs ≡ variables.members_declared s.now 0 0 sections.now) }
 {
-    let written = written_names(alloc, sections)?;
-    let untold = untold_members(alloc, 0, 0, &written)?;
+    let untold = untold_of(alloc, sections)?;
     let names = told_names(alloc, s, sections)?;
-    let list = declared_each(alloc, &names, untold.as_slice())?;
-    Ok(list)
+    declared_each(alloc, &names, untold.as_slice())
 }

@@ -16,18 +16,33 @@ use st_unit_rules::declaration_list::WrittenName;
 use std::alloc::Global;
 
 /// A name, its type, and the value of a constant, where they can be told.
-#[derive(Drop)]
 pub struct ToldName<'a> {
     pub name: WrittenName<'a>,
     pub kind: Option<StType>,
     pub value: Option<i128>,
 }
 
+// By hand, so that a drop is one call: a derived one is written out wherever a `?` may need it.
+impl Drop for ToldName<'_> {
+    fn drop(self) {
+        let ToldName {
+            name: _,
+            kind: _,
+            value: _,
+        } = self;
+    }
+}
+
 /// The type of an item, and the value of its constants.
-#[derive(Drop)]
 struct ToldItem {
     kind: Option<StType>,
     value: Option<i128>,
+}
+
+impl Drop for ToldItem {
+    fn drop(self) {
+        let ToldItem { kind: _, value: _ } = self;
+    }
 }
 
 /// What is told of an item, by one of its names.

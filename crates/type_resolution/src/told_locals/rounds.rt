@@ -77,26 +77,55 @@ fn untold(alloc: Global, around: &Around<'_>, of: &Declaring<'_>) -> Result<Told
     Ok(Told { known, places })
 }
 
-/// The places of the items that declare constants, each behind those that it needs, where that can be. Nothing is said of the order, since
-/// no answer depends on it.
-fn order_of(alloc: Global, names: &[WrittenName<'_>]) -> Result<Vec<usize>, NoMemory> {
+/// The items that declare constants.
+fn constant_groups<'a>(
+    alloc: Global,
+    names: &[WrittenName<'a>],
+) -> Result<Vec<Group<'a>>, NoMemory> {
     let mut groups = Vec::new(alloc);
-    let mut places: Vec<usize> = Vec::new(alloc);
-    for (place, name) in names.iter().enumerate() {
+    for name in names {
         if name.first && name.is_constant() {
             groups.push(Group::Globals(0, *name))?;
+        }
+    }
+    Ok(groups)
+}
+
+/// Where these items begin.
+fn constant_places(alloc: Global, names: &[WrittenName<'_>]) -> Result<Vec<usize>, NoMemory> {
+    let mut places = Vec::new(alloc);
+    for (place, name) in names.iter().enumerate() {
+        if name.first && name.is_constant() {
             places.push(place)?;
         }
     }
-    let needed = order_of_need(alloc, &groups)?;
+    Ok(places)
+}
+
+/// Their numbers, each behind those that it needs, where that can be.
+fn needed_order(alloc: Global, names: &[WrittenName<'_>]) -> Result<Vec<usize>, NoMemory> {
+    let groups = constant_groups(alloc, names)?;
+    order_of_need(alloc, &groups)
+}
+
+/// The places of these numbers.
+fn picked(alloc: Global, places: &[usize], numbers: &[usize]) -> Result<Vec<usize>, NoMemory> {
     let mut order = Vec::new(alloc);
-    for group in &needed {
-        match places.get(*group) {
+    for number in numbers {
+        match places.get(*number) {
             Some(place) => order.push(*place)?,
             None => {}
         }
     }
     Ok(order)
+}
+
+/// The places of the items that declare constants, each behind those that it needs, where that can be. Nothing is said of the order, since
+/// no answer depends on it.
+fn order_of(alloc: Global, names: &[WrittenName<'_>]) -> Result<Vec<usize>, NoMemory> {
+    let numbers = needed_order(alloc, names)?;
+    let places = constant_places(alloc, names)?;
+    picked(alloc, &places, &numbers)
 }
 
 /// The locals with what can be told of constants in an order of need.

@@ -86,6 +86,22 @@ fn tell_behind(
     Ok(())
 }
 
+/// The same for all names of the item that begins at this place.
+fn tell_found(
+    alloc: Global,
+    known: &mut Series<DeclaredVariable>,
+    first: usize,
+    names: &[WrittenName<'_>],
+    place: usize,
+    found: &(StType, i128),
+) -> Result<(), NoMemory>
+    ensures { OnOk result (known.new ≡ told_behind (with_local known.old (first + place) found.now.0 (target.Constant found.now.1)) (first + suc place) (drop (suc place) names.now) found.now.0 found.now.1) }
+{
+    let next = one_more(place)?;
+    tell_one(alloc, known, first, place, found)?;
+    tell_behind(alloc, known, first, names, next, found)
+}
+
 /// Tells what can be told of the item that begins at the place, where it declares constants; it is evaluated once.
 fn visit(
     alloc: Global,
@@ -111,10 +127,7 @@ fn visit(
     let Some(found) = found else {
         return Ok(Told { known, places });
     };
-    let first = first_of(of);
-    let next = one_more(place)?;
-    tell_one(alloc, &mut known, first, place, &found)?;
-    tell_behind(alloc, &mut known, first, names, next, &found)?;
+    tell_found(alloc, &mut known, first_of(of), names, place, &found)?;
     Ok(Told { known, places })
 }
 
