@@ -35,23 +35,17 @@ fn shared_of(
 ) -> SharedItem
     ensures { IsShared result kind item tables.now.decls written.now }
 {
-    let CheckedType {
-        kind,
-        least: _,
-        tree: _,
-    } = kind;
-    let CheckedItem { least, item: _ } = item;
     let deep = too_deep(
         tables.sizes(),
         tables.graph(),
         Within::Variable,
         item_line(written),
         &written.kind,
-        &kind,
+        &kind.kind,
     );
     SharedItem {
-        kind,
-        least: earlier(least, deep),
+        kind: kind.into_kind(),
+        least: earlier(item.least, deep),
     }
 }
 

@@ -38,11 +38,10 @@ struct CheckedMember {
 fn section_member(found: CheckedSection) -> CheckedMember
     ensures { IsSectionMember result found }
 {
-    let CheckedSection { least, section } = found;
     CheckedMember {
-        section: least,
+        section: found.least,
         method: None,
-        member: Member::Section(section),
+        member: Member::Section(found.into_section()),
     }
 }
 

@@ -27,14 +27,9 @@ pub struct CheckedBody {
 fn alias_of(found: CheckedType, own: Option<(Code, u32)>, deep: Option<(Code, u32)>) -> CheckedBody
     ensures { IsAlias result found own deep }
 {
-    let CheckedType {
-        kind: _,
-        least,
-        tree,
-    } = found;
     CheckedBody {
-        least: earlier(earlier(least, own), deep),
-        body: TypeBody::Alias(tree),
+        least: earlier(earlier(found.least, own), deep),
+        body: TypeBody::Alias(found.into_tree()),
     }
 }
 
@@ -51,10 +46,9 @@ fn enumeration_of(alloc: Global, names: &[Name]) -> Result<CheckedBody, NoMemory
 fn structure_of(found: CheckedGroups, depth: Option<(Code, u32)>) -> CheckedBody
     ensures { IsStructure result found depth }
 {
-    let CheckedGroups { least, groups } = found;
     CheckedBody {
-        least: earlier(least, depth),
-        body: TypeBody::Structure(groups),
+        least: earlier(found.least, depth),
+        body: TypeBody::Structure(found.into_groups()),
     }
 }
 

@@ -21,10 +21,26 @@ pub struct CheckedGroup {
 }
 
 /// What is found out about the fields of a structure.
-#[derive(Drop)]
 pub struct CheckedGroups {
     pub least: Option<(Code, u32)>,
     pub groups: Items<FieldGroup<Note>>,
+}
+
+// By hand, so that a drop is one call: a derived one is written out wherever a `?` may need it.
+impl Drop for CheckedGroups {
+    fn drop(self) {
+        drop(self.into_groups());
+    }
+}
+
+impl CheckedGroups {
+    /// The typed trees alone.
+    pub fn into_groups(self) -> Items<FieldGroup<Note>>
+        ensures { result ≡ self.groups }
+    {
+        let CheckedGroups { least: _, groups } = self;
+        groups
+    }
 }
 
 /// The line of the first of the names.
@@ -41,21 +57,16 @@ fn first_line(names: &[Name]) -> u32
 fn group_of(line: u32, names: Items<Name>, kind: CheckedType, given: CheckedGiven) -> CheckedGroup
     ensures { IsGroup result line names kind given }
 {
-    let CheckedType {
-        kind: told,
-        least: of_kind,
-        tree,
-    } = kind;
     let CheckedGiven {
         least: of_initial,
         initial,
     } = given;
-    let place = instance_out_of_place(line, false, &told);
+    let place = instance_out_of_place(line, false, &kind.kind);
     CheckedGroup {
-        least: earlier(earlier(of_kind, place), of_initial),
+        least: earlier(earlier(kind.least, place), of_initial),
         group: FieldGroup {
             names,
-            kind: tree,
+            kind: kind.into_tree(),
             initial,
         },
     }
@@ -87,13 +98,11 @@ fn no_groups(alloc: Global) -> CheckedGroups
 fn with_group(so_far: CheckedGroups, one: CheckedGroup) -> Result<CheckedGroups, NoMemory>
     ensures { IfOk result (λ x. AddsGroup x so_far one) }
 {
-    let CheckedGroups { least, mut groups } = so_far;
-    let CheckedGroup { least: own, group } = one;
-    groups.push(group)?;
-    Ok(CheckedGroups {
-        least: earlier(least, own),
-        groups,
-    })
+    let mut so_far = so_far;
+    let CheckedGroup { least, group } = one;
+    so_far.least = earlier(so_far.least, least);
+    so_far.groups.push(group)?;
+    Ok(so_far)
 }
 
 /// Checks the fields of a structure.

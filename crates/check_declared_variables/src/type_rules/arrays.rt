@@ -3,7 +3,7 @@
 ghost use Rattle.std.specs.Prelude.{◌≡◌, reverse, IfOk};
 ghost use Rattle.check_declared_variables.specs.type_rules.Private.Arrays.{IsAround, AddsArray, ArraysFind};
 
-use crate::type_rules::dimensions::{Dimensions, Told, check_dimensions};
+use crate::type_rules::dimensions::{Told, check_dimensions};
 use crate::type_rules::elements::noted;
 use name_resolution::Scope;
 use plc_text::{Items, NoMemory};
@@ -61,8 +61,8 @@ fn check_array(
     ensures { IfOk result (λ x. IsAround x s.now array.now inner) }
 {
     let found = check_dimensions(alloc, s, array.bounds.as_slice(), inner)?;
-    let Dimensions { told, bounds } = found;
-    let note = noted(alloc, array.note, &told.kind)?;
+    let note = noted(alloc, array.note, &found.told.kind)?;
+    let (told, bounds) = found.into_parts();
     let bounds = turned_bounds(alloc, bounds)?;
     Ok(Around {
         told,

@@ -17,7 +17,6 @@ use std::alloc::Global;
 use type_resolution::written_types::is_number_type;
 
 /// A bound of an array, checked.
-#[derive(Drop)]
 pub struct CheckedBound {
     /// Where it is an integer or a bit string that can be told.
     pub value: Option<i128>,
@@ -25,13 +24,54 @@ pub struct CheckedBound {
     pub tree: Expr<Note>,
 }
 
+// By hand, so that a drop is one call: a derived one is written out wherever a `?` may need it.
+impl Drop for CheckedBound {
+    fn drop(self) {
+        drop(self.into_tree());
+    }
+}
+
+impl CheckedBound {
+    /// The typed tree alone.
+    fn into_tree(self) -> Expr<Note>
+        ensures { result ≡ self.tree }
+    {
+        let CheckedBound {
+            value: _,
+            least: _,
+            tree,
+        } = self;
+        tree
+    }
+}
+
 /// A dimension of an array, checked.
-#[derive(Drop)]
 pub struct CheckedDimension {
     pub low: Option<i128>,
     pub high: Option<i128>,
     pub least: Option<(Code, u32)>,
     pub bounds: Bounds<Note>,
+}
+
+impl Drop for CheckedDimension {
+    fn drop(self) {
+        drop(self.into_bounds());
+    }
+}
+
+impl CheckedDimension {
+    /// The typed bounds alone.
+    pub fn into_bounds(self) -> Bounds<Note>
+        ensures { result ≡ self.bounds }
+    {
+        let CheckedDimension {
+            low: _,
+            high: _,
+            least: _,
+            bounds,
+        } = self;
+        bounds
+    }
 }
 
 /// What a bound comes to, where it is an integer or a bit string, and all its names are told.
@@ -85,24 +125,14 @@ fn lies_above(low: Option<i128>, high: Option<i128>) -> bool
 fn dimension_of(line: u32, low: CheckedBound, high: CheckedBound) -> CheckedDimension
     ensures { IsDimension result line low high }
 {
-    let CheckedBound {
-        value: low,
-        least: of_low,
-        tree: low_tree,
-    } = low;
-    let CheckedBound {
-        value: high,
-        least: of_high,
-        tree: high_tree,
-    } = high;
-    let above = when(lies_above(low, high), Code::E13, line);
+    let above = when(lies_above(low.value, high.value), Code::E13, line);
     CheckedDimension {
-        low,
-        high,
-        least: earlier(earlier(of_low, of_high), above),
+        low: low.value,
+        high: high.value,
+        least: earlier(earlier(low.least, high.least), above),
         bounds: Bounds {
-            low: low_tree,
-            high: high_tree,
+            low: low.into_tree(),
+            high: high.into_tree(),
         },
     }
 }

@@ -1,6 +1,7 @@
 //! The dimensions of one array, the innermost first.
 
-ghost use Rattle.std.specs.Prelude.{◌≡◌, IfOk};
+ghost use Rattle.std.specs.Prelude.{◌≡◌, IfOk, OnOk};
+ghost use Rattle.st_rules.specs.Faults as faults;
 ghost use Rattle.st_unit_rules.specs.declared_names.WrittenTypes as written;
 ghost use Rattle.check_declared_variables.specs.type_rules.Private.Dimensions.{Surrounds, DimensionsFind};
 
@@ -21,10 +22,28 @@ pub struct Told {
 }
 
 /// Dimensions of an array so far, the last one first.
-#[derive(Drop)]
 pub struct Dimensions {
     pub told: Told,
     pub bounds: Vec<Bounds<Note>>,
+}
+
+// By hand, so that a drop is one call: a derived one is written out wherever a `?` may need it.
+impl Drop for Dimensions {
+    fn drop(self) {
+        let (told, bounds) = self.into_parts();
+        drop(told);
+        drop(bounds);
+    }
+}
+
+impl Dimensions {
+    /// What is told, and the typed bounds.
+    pub fn into_parts(self) -> (Told, Vec<Bounds<Note>>)
+        ensures { result ≡ (self.told, self.bounds) }
+    {
+        let Dimensions { told, bounds } = self;
+        (told, bounds)
+    }
 }
 
 /// An array between these bounds, where all is told.
@@ -45,7 +64,17 @@ fn around(
     }
 }
 
-/// What is told with one more dimension around.
+/// Puts one more dimension around what is told.
+fn enclose(alloc: Global, told: &mut Told, dimension: &CheckedDimension) -> Result<(), NoMemory>
+    ensures kind { OnOk result (told.new.kind ≡ written.array_of dimension.now.low dimension.now.high told.old.kind) }
+    ensures least { OnOk result (told.new.least ≡ faults.earlier dimension.now.least told.old.least) }
+{
+    told.kind = around(alloc, dimension.low, dimension.high, told.kind.take())?;
+    told.least = earlier(dimension.least, told.least);
+    Ok(())
+}
+
+/// The dimensions with one more around.
 fn with_dimension(
     alloc: Global,
     so_far: Dimensions,
@@ -53,23 +82,10 @@ fn with_dimension(
 ) -> Result<Dimensions, NoMemory>
     ensures { IfOk result (λ x. Surrounds x so_far dimension) }
 {
-    let Dimensions { told, mut bounds } = so_far;
-    let Told { kind, least } = told;
-    let CheckedDimension {
-        low,
-        high,
-        least: own,
-        bounds: more,
-    } = dimension;
-    let kind = around(alloc, low, high, kind)?;
-    bounds.push(more)?;
-    Ok(Dimensions {
-        told: Told {
-            kind,
-            least: earlier(own, least),
-        },
-        bounds,
-    })
+    let mut so_far = so_far;
+    enclose(alloc, &mut so_far.told, &dimension)?;
+    so_far.bounds.push(dimension.into_bounds())?;
+    Ok(so_far)
 }
 
 /// Checks the dimensions of an array, around what is told of its elements.

@@ -7,6 +7,7 @@ ghost use Rattle.st_rules.specs.Expressions as expressions;
 ghost use Rattle.st_rules.specs.Faults as faults;
 ghost use Rattle.st_rules.specs.Faults.{least};
 ghost use Rattle.st_tree.specs.declared.program.Target.TheVariants as targets;
+ghost use Rattle.st_tree.specs.declared.type_spec.SimpleSpec.TheVariants as elements;
 ghost use Rattle.st_unit_rules.specs.declared_names.WrittenTypes as written;
 ghost use Rattle.check_declared_variables.specs.type_rules.Private.Elements.{ElementChecks, IsElementary, IsNamed, IsReference, is_instance_told};
 
@@ -102,6 +103,23 @@ fn named(alloc: Global, s: &Scope<'_>, line: u32, name: &Text) -> Result<Checked
     })
 }
 
+/// The typed tree of a reference of this type to this type of the name.
+fn reference_tree(
+    alloc: Global,
+    line: u32,
+    name_line: u32,
+    kind: &Option<StType>,
+    of: &Option<StType>,
+    name: &Text,
+) -> Result<SimpleSpec<Note>, NoMemory>
+    ensures { IfOk result (λ e. e ≡ elements.Reference (expressions.note line kind.now targets.Nothing) (expressions.note name_line of.now targets.Nothing) name.now) }
+{
+    let copy = Text::copy(alloc, name.as_str())?;
+    let note = noted(alloc, line, kind)?;
+    let name_note = noted(alloc, name_line, of)?;
+    Ok(SimpleSpec::Reference(note, name_note, copy))
+}
+
 fn reference(
     alloc: Global,
     s: &Scope<'_>,
@@ -113,15 +131,12 @@ fn reference(
 {
     let of = named_type(alloc, s, name)?;
     let kind = reference_to(&of);
-    let found = is_found(s, name);
-    let other = reference_fault(name_line, found, &of);
-    let note = noted(alloc, line, &kind)?;
-    let name_note = noted(alloc, name_line, &of)?;
-    let copy = Text::copy(alloc, name.as_str())?;
+    let element = reference_tree(alloc, line, name_line, &kind, &of, name)?;
+    let other = reference_fault(name_line, is_found(s, name), &of);
     Ok(CheckedElement {
         kind,
         least: earlier(type_fault(name_line, s, name), other),
-        element: SimpleSpec::Reference(note, name_note, copy),
+        element,
     })
 }
 

@@ -1,6 +1,6 @@
 //! Types as they are written.
 
-ghost use Rattle.std.specs.Prelude.{IfOk};
+ghost use Rattle.std.specs.Prelude.{◌≡◌, IfOk};
 ghost use Rattle.check_declared_variables.specs.type_rules.Types.{ChecksType};
 
 use crate::type_rules::arrays::{Arrays, check_arrays, turned_arrays};
@@ -13,13 +13,53 @@ use st_types::StType;
 use std::alloc::Global;
 
 /// What is found out about a type as it is written.
-#[derive(Drop)]
 pub struct CheckedType {
     /// The type, where it can be told.
     pub kind: Option<StType>,
     /// The least rule that is broken, with its least line.
     pub least: Option<(Code, u32)>,
     pub tree: TypeSpec<Note>,
+}
+
+// By hand, so that a drop is one call: a derived one is written out wherever a `?` may need it.
+impl Drop for CheckedType {
+    fn drop(self) {
+        let CheckedType {
+            kind,
+            least: _,
+            tree,
+        } = self;
+        drop(kind);
+        drop(tree);
+    }
+}
+
+impl CheckedType {
+    /// The type alone.
+    pub fn into_kind(self) -> Option<StType>
+        ensures { result ≡ self.kind }
+    {
+        let CheckedType {
+            kind,
+            least: _,
+            tree,
+        } = self;
+        drop(tree);
+        kind
+    }
+
+    /// The typed tree alone.
+    pub fn into_tree(self) -> TypeSpec<Note>
+        ensures { result ≡ self.tree }
+    {
+        let CheckedType {
+            kind,
+            least: _,
+            tree,
+        } = self;
+        drop(kind);
+        tree
+    }
 }
 
 /// Checks a type as it is written: what it means, where it can be told, the least rule that it breaks at its least line, and its typed

@@ -22,19 +22,79 @@ use st_unit_rules::declaration_list::item_line;
 use std::alloc::Global;
 
 /// What is found out about an item.
-#[derive(Drop)]
 pub struct CheckedItem {
     /// The least rule that is broken, with its least line.
     pub least: Option<(Code, u32)>,
     pub item: Item<Note>,
 }
 
+// By hand, so that a drop is one call: a derived one is written out wherever a `?` may need it.
+impl Drop for CheckedItem {
+    fn drop(self) {
+        drop(self.into_item());
+    }
+}
+
+impl CheckedItem {
+    /// The typed tree alone.
+    pub fn into_item(self) -> Item<Note>
+        ensures { result ≡ self.item }
+    {
+        let CheckedItem { least: _, item } = self;
+        item
+    }
+}
+
 /// What an item says besides its type and its initial value.
-#[derive(Drop)]
 struct Head {
     marks: Marks,
     names: Items<Name>,
     address: Option<Text>,
+}
+
+impl Drop for Head {
+    fn drop(self) {
+        let Head {
+            marks,
+            names,
+            address,
+        } = self;
+        drop(marks);
+        drop(names);
+        drop(address);
+    }
+}
+
+impl Head {
+    /// An item of this type and with this initial value, which breaks this besides.
+    fn item_of(
+        self,
+        kind: CheckedType,
+        rules: Option<(Code, u32)>,
+        given: CheckedGiven,
+    ) -> CheckedItem
+        ensures { IsItem result self kind rules given }
+    {
+        let Head {
+            marks,
+            names,
+            address,
+        } = self;
+        let CheckedGiven {
+            least: of_initial,
+            initial,
+        } = given;
+        CheckedItem {
+            least: earlier(earlier(kind.least, rules), of_initial),
+            item: Item {
+                marks,
+                names,
+                address,
+                kind: kind.into_tree(),
+                initial,
+            },
+        }
+    }
 }
 
 /// What an item of externals breaks.
@@ -67,41 +127,6 @@ fn copied_head(alloc: Global, item: &Item<u32>) -> Result<Head, NoMemory>
     })
 }
 
-/// An item of this type and with this initial value, which breaks this besides.
-fn item_of(
-    head: Head,
-    kind: CheckedType,
-    rules: Option<(Code, u32)>,
-    given: CheckedGiven,
-) -> CheckedItem
-    ensures { IsItem result head kind rules given }
-{
-    let Head {
-        marks,
-        names,
-        address,
-    } = head;
-    let CheckedType {
-        kind: _,
-        least: of_kind,
-        tree,
-    } = kind;
-    let CheckedGiven {
-        least: of_initial,
-        initial,
-    } = given;
-    CheckedItem {
-        least: earlier(earlier(of_kind, rules), of_initial),
-        item: Item {
-            marks,
-            names,
-            address,
-            kind: tree,
-            initial,
-        },
-    }
-}
-
 /// Checks an item of a section: the least rule that its names share and break, at its least line, and its typed tree. The tables and
 /// the classes are those that the scope sees. It takes time linear in the text.
 pub fn check_item(
@@ -122,5 +147,5 @@ pub fn check_item(
     let given = check_given(alloc, s, &kind.kind, &item.initial)?;
     let own = own_fault(classes, home, section, item, item_line(item), &kind.kind);
     let external = external_if(names, section, item, &kind.kind);
-    Ok(item_of(head, kind, earlier(own, external), given))
+    Ok(head.item_of(kind, earlier(own, external), given))
 }

@@ -13,22 +13,40 @@ use st_tree::{Note, TypeSpec};
 use std::alloc::Global;
 
 /// What is found out about the type of a result that may be there.
-#[derive(Drop)]
 pub struct CheckedResult {
     /// The least rule that is broken, with its least line.
     pub least: Option<(Code, u32)>,
     pub result: Option<TypeSpec<Note>>,
 }
 
+// By hand, so that a drop is one call: a derived one is written out wherever a `?` may need it.
+impl Drop for CheckedResult {
+    fn drop(self) {
+        drop(self.into_result());
+    }
+}
+
+impl CheckedResult {
+    /// The typed tree alone.
+    pub fn into_result(self) -> Option<TypeSpec<Note>>
+        ensures { result ≡ self.result }
+    {
+        let CheckedResult {
+            least: _,
+            result: kind,
+        } = self;
+        kind
+    }
+}
+
 /// The type of a result in a heading at this line, which is no instance.
 fn result_of(line: u32, found: CheckedType) -> CheckedResult
     ensures { IsResult result line found }
 {
-    let CheckedType { kind, least, tree } = found;
-    let place = instance_out_of_place(line, false, &kind);
+    let place = instance_out_of_place(line, false, &found.kind);
     CheckedResult {
-        least: earlier(least, place),
-        result: Some(tree),
+        least: earlier(found.least, place),
+        result: Some(found.into_tree()),
     }
 }
 

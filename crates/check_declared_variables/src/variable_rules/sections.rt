@@ -15,26 +15,72 @@ use st_tree::{ClassDecl, Item, Modifier, Note, Section};
 use std::alloc::Global;
 
 /// What is found out about items.
-#[derive(Drop)]
 struct CheckedItems {
     least: Option<(Code, u32)>,
     items: Items<Item<Note>>,
 }
 
+// By hand, so that a drop is one call: a derived one is written out wherever a `?` may need it.
+impl Drop for CheckedItems {
+    fn drop(self) {
+        drop(self.into_items());
+    }
+}
+
+impl CheckedItems {
+    /// The typed trees alone.
+    fn into_items(self) -> Items<Item<Note>>
+        ensures { result ≡ self.items }
+    {
+        let CheckedItems { least: _, items } = self;
+        items
+    }
+}
+
 /// What is found out about a section.
-#[derive(Drop)]
 pub struct CheckedSection {
     /// The least rule that is broken, with its least line.
     pub least: Option<(Code, u32)>,
     pub section: Section<Note>,
 }
 
+impl Drop for CheckedSection {
+    fn drop(self) {
+        drop(self.into_section());
+    }
+}
+
+impl CheckedSection {
+    /// The typed tree alone.
+    pub fn into_section(self) -> Section<Note>
+        ensures { result ≡ self.section }
+    {
+        let CheckedSection { least: _, section } = self;
+        section
+    }
+}
+
 /// What is found out about sections.
-#[derive(Drop)]
 pub struct CheckedSections {
     /// The least rule that is broken, with its least line.
     pub least: Option<(Code, u32)>,
     pub sections: Items<Section<Note>>,
+}
+
+impl Drop for CheckedSections {
+    fn drop(self) {
+        drop(self.into_sections());
+    }
+}
+
+impl CheckedSections {
+    /// The typed trees alone.
+    pub fn into_sections(self) -> Items<Section<Note>>
+        ensures { result ≡ self.sections }
+    {
+        let CheckedSections { least: _, sections } = self;
+        sections
+    }
 }
 
 fn no_items(alloc: Global) -> CheckedItems
@@ -49,13 +95,10 @@ fn no_items(alloc: Global) -> CheckedItems
 fn with_item(so_far: CheckedItems, one: CheckedItem) -> Result<CheckedItems, NoMemory>
     ensures { IfOk result (λ x. AddsItem x so_far one) }
 {
-    let CheckedItems { least, mut items } = so_far;
-    let CheckedItem { least: own, item } = one;
-    items.push(item)?;
-    Ok(CheckedItems {
-        least: earlier(least, own),
-        items,
-    })
+    let mut so_far = so_far;
+    so_far.least = earlier(so_far.least, one.least);
+    so_far.items.push(one.into_item())?;
+    Ok(so_far)
 }
 
 /// Checks items of a section.
@@ -89,14 +132,13 @@ fn section_of(
 ) -> CheckedSection
     ensures { IsSection result section.now modifiers heading found }
 {
-    let CheckedItems { least, items } = found;
     CheckedSection {
-        least: earlier(heading, least),
+        least: earlier(heading, found.least),
         section: Section {
             line: section.line,
             sort: section.sort,
             modifiers,
-            items,
+            items: found.into_items(),
         },
     }
 }
@@ -134,19 +176,10 @@ fn no_sections(alloc: Global) -> CheckedSections
 fn with_section(so_far: CheckedSections, one: CheckedSection) -> Result<CheckedSections, NoMemory>
     ensures { IfOk result (λ x. AddsSection x so_far one) }
 {
-    let CheckedSections {
-        least,
-        mut sections,
-    } = so_far;
-    let CheckedSection {
-        least: own,
-        section,
-    } = one;
-    sections.push(section)?;
-    Ok(CheckedSections {
-        least: earlier(least, own),
-        sections,
-    })
+    let mut so_far = so_far;
+    so_far.least = earlier(so_far.least, one.least);
+    so_far.sections.push(one.into_section())?;
+    Ok(so_far)
 }
 
 /// Checks sections: the least rule that they break, and their typed trees. The tables and the classes are those that the scope sees.

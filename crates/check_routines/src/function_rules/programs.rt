@@ -64,20 +64,16 @@ fn program_of(
 ) -> CheckedProgram
     ensures { IsProgram result line name names found limits body }
 {
-    let CheckedSections {
-        least: of_sections,
-        sections,
-    } = found;
     let FoundBody {
         least: of_body,
         body,
     } = body;
     CheckedProgram {
-        least: earlier(earlier(earlier(names, of_sections), limits), of_body),
+        least: earlier(earlier(earlier(names, found.least), limits), of_body),
         program: ProgramDecl {
             line,
             name,
-            sections,
+            sections: found.into_sections(),
             body,
         },
     }

@@ -33,18 +33,10 @@ fn variables_of(
 ) -> CheckedVariables
     ensures { AreVariables result sections spec limits }
 {
-    let CheckedSections {
-        least: of_sections,
-        sections,
-    } = sections;
-    let CheckedResult {
-        least: of_result,
-        result: kind,
-    } = spec;
     CheckedVariables {
-        least: earlier(earlier(of_sections, of_result), limits),
-        result: kind,
-        sections,
+        least: earlier(earlier(sections.least, spec.least), limits),
+        result: spec.into_result(),
+        sections: sections.into_sections(),
     }
 }
 
