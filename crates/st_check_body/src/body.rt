@@ -208,6 +208,6 @@ pub fn check_body(
     let x = check_statements(alloc, s, false, body)?;
     match x.least {
         Some((code, line)) => Err(Broken::Rule(code, line)),
-        None => Ok(x.statements),
+        None => Ok(x.into_statements()),
     }
 }

@@ -34,10 +34,28 @@ impl CheckedStatement {
 }
 
 /// Statements in a row.
-#[derive(Drop)]
 pub struct CheckedStatements {
     pub least: Option<(Code, u32)>,
     pub statements: Items<Stmt<Note>>,
+}
+
+impl Drop for CheckedStatements {
+    fn drop(self) {
+        drop(self.into_statements());
+    }
+}
+
+impl CheckedStatements {
+    /// The typed trees alone.
+    pub fn into_statements(self) -> Items<Stmt<Note>>
+        ensures { result ≡ self.statements }
+    {
+        let CheckedStatements {
+            least: _,
+            statements,
+        } = self;
+        statements
+    }
 }
 
 /// A branch of an IF.
@@ -63,10 +81,25 @@ impl CheckedBranch {
 }
 
 /// The branches of an IF.
-#[derive(Drop)]
 pub struct CheckedBranches {
     pub least: Option<(Code, u32)>,
     pub branches: Items<Branch<Note>>,
+}
+
+impl Drop for CheckedBranches {
+    fn drop(self) {
+        drop(self.into_branches());
+    }
+}
+
+impl CheckedBranches {
+    /// The typed trees alone.
+    pub fn into_branches(self) -> Items<Branch<Note>>
+        ensures { result ≡ self.branches }
+    {
+        let CheckedBranches { least: _, branches } = self;
+        branches
+    }
 }
 
 /// A case of a CASE.
@@ -92,10 +125,25 @@ impl CheckedCase {
 }
 
 /// The cases of a CASE.
-#[derive(Drop)]
 pub struct CheckedCases {
     pub least: Option<(Code, u32)>,
     pub cases: Items<Case<Note>>,
+}
+
+impl Drop for CheckedCases {
+    fn drop(self) {
+        drop(self.into_cases());
+    }
+}
+
+impl CheckedCases {
+    /// The typed trees alone.
+    pub fn into_cases(self) -> Items<Case<Note>>
+        ensures { result ≡ self.cases }
+    {
+        let CheckedCases { least: _, cases } = self;
+        cases
+    }
 }
 
 /// What stands behind ELSE, where there is one.

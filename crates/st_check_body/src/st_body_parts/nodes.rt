@@ -78,7 +78,7 @@ pub fn if_of(line: u32, bs: CheckedBranches, o: CheckedOtherwise) -> CheckedStat
 {
     CheckedStatement {
         least: earlier(bs.least, o.least),
-        statement: Stmt::If(line, bs.branches, o.otherwise),
+        statement: Stmt::If(line, bs.into_branches(), o.otherwise),
     }
 }
 
@@ -94,7 +94,7 @@ pub fn case_of(
 {
     CheckedStatement {
         least: earlier(earlier(choice.least, cs.least), o.least),
-        statement: Stmt::Case(line, choice.into_tree(), cs.cases, o.otherwise),
+        statement: Stmt::Case(line, choice.into_tree(), cs.into_cases(), o.otherwise),
     }
 }
 
@@ -112,7 +112,7 @@ pub fn for_of(
     let name = Text::copy(alloc, name.as_str())?;
     Ok(CheckedStatement {
         least: earlier(control.least, body.least),
-        statement: control.into_statement(line, name, body.statements),
+        statement: control.into_statement(line, name, body.into_statements()),
     })
 }
 
@@ -123,7 +123,7 @@ pub fn while_of(line: u32, e: Checked, body: CheckedStatements) -> CheckedStatem
 {
     CheckedStatement {
         least: earlier(e.least, body.least),
-        statement: Stmt::While(line, e.into_tree(), body.statements),
+        statement: Stmt::While(line, e.into_tree(), body.into_statements()),
     }
 }
 
@@ -134,7 +134,7 @@ pub fn repeat_of(line: u32, body: CheckedStatements, e: Checked) -> CheckedState
 {
     CheckedStatement {
         least: earlier(body.least, e.least),
-        statement: Stmt::Repeat(line, body.statements, e.into_tree()),
+        statement: Stmt::Repeat(line, body.into_statements(), e.into_tree()),
     }
 }
 
@@ -147,7 +147,7 @@ pub fn branch_of(e: Checked, body: CheckedStatements) -> CheckedBranch
         least: earlier(e.least, body.least),
         branch: Branch {
             condition: e.into_tree(),
-            body: body.statements,
+            body: body.into_statements(),
         },
     }
 }
@@ -161,7 +161,7 @@ pub fn case_branch_of(ls: CheckedLabels, body: CheckedStatements) -> CheckedCase
         least: earlier(ls.least, body.least),
         case: Case {
             labels: ls.labels,
-            body: body.statements,
+            body: body.into_statements(),
         },
     }
 }
@@ -173,7 +173,7 @@ pub fn else_of(body: CheckedStatements) -> CheckedOtherwise
 {
     CheckedOtherwise {
         least: body.least,
-        otherwise: Otherwise::Else(body.statements),
+        otherwise: Otherwise::Else(body.into_statements()),
     }
 }
 
@@ -194,13 +194,10 @@ pub fn with_statement(
 ) -> Result<CheckedStatements, NoMemory>
     ensures { IfOk result (λ x. AddsStatement x so_far one) }
 {
-    let CheckedStatements {
-        least,
-        mut statements,
-    } = so_far;
-    let least = earlier(least, one.least);
-    statements.push(one.into_statement())?;
-    Ok(CheckedStatements { least, statements })
+    let mut so_far = so_far;
+    so_far.least = earlier(so_far.least, one.least);
+    so_far.statements.push(one.into_statement())?;
+    Ok(so_far)
 }
 
 /// No branches yet.
@@ -217,13 +214,10 @@ pub fn no_branch(alloc: Global) -> CheckedBranches
 pub fn with_branch(so_far: CheckedBranches, one: CheckedBranch) -> Result<CheckedBranches, NoMemory>
     ensures { IfOk result (λ x. AddsBranch x so_far one) }
 {
-    let CheckedBranches {
-        least,
-        mut branches,
-    } = so_far;
-    let least = earlier(least, one.least);
-    branches.push(one.into_branch())?;
-    Ok(CheckedBranches { least, branches })
+    let mut so_far = so_far;
+    so_far.least = earlier(so_far.least, one.least);
+    so_far.branches.push(one.into_branch())?;
+    Ok(so_far)
 }
 
 /// No cases yet.
@@ -240,10 +234,10 @@ pub fn no_case(alloc: Global) -> CheckedCases
 pub fn with_case(so_far: CheckedCases, one: CheckedCase) -> Result<CheckedCases, NoMemory>
     ensures { IfOk result (λ x. AddsCase x so_far one) }
 {
-    let CheckedCases { least, mut cases } = so_far;
-    let least = earlier(least, one.least);
-    cases.push(one.into_case())?;
-    Ok(CheckedCases { least, cases })
+    let mut so_far = so_far;
+    so_far.least = earlier(so_far.least, one.least);
+    so_far.cases.push(one.into_case())?;
+    Ok(so_far)
 }
 
 /// No labels yet.
