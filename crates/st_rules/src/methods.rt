@@ -6,7 +6,6 @@ ghost use Rattle.st_rules.specs.ClassRules as rules;
 
 use st_tree::{Member, SectionSort, Stmt};
 
-#[tactic(auto, using(st_tree::specs::Statement::statement_views), unfolding(crate::specs::ClassRules::is_statement))]
 fn is_statement<A>(stmt: &Stmt<A>) -> bool
     ensures { result ≡ rules.is_statement stmt.now }
 {
