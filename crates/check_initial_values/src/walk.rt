@@ -18,7 +18,7 @@ use crate::worth::with_value;
 use check_names::name_spaces::HeldNames;
 use name_resolution::Scope;
 use plc_text::{Code, NoMemory, Text};
-use st_check_expr::{Constant, check_constant};
+use st_check_expr::check_constant;
 use st_operators::asked_of;
 use st_rules::earlier;
 use st_tree::{Expr, FieldInit, Init, Part};
@@ -36,16 +36,10 @@ fn check_value(
 {
     let asked = asked_of(copied(alloc, kind)?);
     let c = check_constant(alloc, s, e, &asked)?;
-    let Constant {
-        told: _,
-        least,
-        tree,
-        value,
-        number: _,
-    } = c;
+    let (least, value) = (c.least, c.value);
     Ok(CheckedInitial {
         least,
-        tree: Init::Value(with_value(tree, value)),
+        tree: Init::Value(with_value(c.into_tree(), value)),
     })
 }
 

@@ -21,7 +21,6 @@ use st_types::StType;
 use std::alloc::Global;
 
 /// What is found out about an expression where a constant is wanted.
-#[derive(Drop)]
 pub struct Constant {
     /// None where it cannot be told.
     pub told: Option<StType>,
@@ -31,6 +30,30 @@ pub struct Constant {
     pub value: Outcome,
     /// The number that it comes to, where no rule is broken but the limit of operators.
     pub number: Option<i128>,
+}
+
+// By hand, so that a drop is one call: a derived one is written out wherever a `?` may need it.
+impl Drop for Constant {
+    fn drop(self) {
+        drop(self.into_tree());
+    }
+}
+
+impl Constant {
+    /// The typed tree alone.
+    pub fn into_tree(self) -> Expr<Note>
+        ensures { result ≡ self.tree }
+    {
+        let Constant {
+            told,
+            least: _,
+            tree,
+            value: _,
+            number: _,
+        } = self;
+        drop(told);
+        tree
+    }
 }
 
 /// E13 where a zero divisor ends the value.

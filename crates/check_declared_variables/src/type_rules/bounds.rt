@@ -85,18 +85,13 @@ fn bound_found(is_number: bool, told: bool, number: Option<i128>) -> Option<i128
 fn bound_of(line: u32, told: bool, c: Constant) -> CheckedBound
     ensures { IsBound result line told c }
 {
-    let Constant {
-        told: kind,
-        least,
-        tree,
-        value,
-        number,
-    } = c;
-    let found = bound_found(is_number_type(&kind), told, number);
+    let found = bound_found(is_number_type(&c.told), told, c.number);
+    let least = earlier(c.least, index_fault(line, &c.told));
+    let value = c.value;
     CheckedBound {
         value: found,
-        least: earlier(least, index_fault(line, &kind)),
-        tree: with_value(tree, value),
+        least,
+        tree: with_value(c.into_tree(), value),
     }
 }
 
