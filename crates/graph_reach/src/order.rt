@@ -67,41 +67,78 @@ impl Groups {
     fn new(alloc: Global, count: usize, edges: &[Edge]) -> Result<Groups, NoMemory> {
         let left_nodes = left_order(alloc, count, edges)?;
         let mut threads = Threads::new(alloc, count, edges, false)?;
-        let mut groups = Groups {
+        let mut groups = Groups::none(alloc, count)?;
+        let many = turns(count, edges);
+        groups.find(alloc, edges, &mut threads, &left_nodes, many)?;
+        Ok(groups)
+    }
+
+    /// No group yet, of so many nodes.
+    fn none(alloc: Global, count: usize) -> Result<Groups, NoMemory> {
+        Ok(Groups {
             nodes: Vec::new(alloc),
             starts: Vec::new(alloc),
             roots: vec![in alloc; NONE; count]?,
             ahead: vec![in alloc; NONE; count]?,
-        };
+        })
+    }
+
+    /// Finds the groups in so many turns, by a search against the edges from the nodes that were left last.
+    fn find(
+        &mut self,
+        alloc: Global,
+        edges: &[Edge],
+        threads: &mut Threads,
+        left_nodes: &[usize],
+        many: usize,
+    ) -> Result<(), NoMemory> {
         let mut stack: Vec<usize> = Vec::new(alloc);
         let mut left = left_nodes.len();
-        for _ in 0..turns(count, edges) {
+        for _ in 0..many {
             match stack.pop() {
                 None => {
                     if left == 0 || left > left_nodes.len() {
                         break;
                     }
                     left -= 1;
-                    let root = left_nodes[left];
-                    if groups.is_new(root) {
-                        groups.starts.push(groups.nodes.len())?;
-                        groups.add(root, root, NONE)?;
-                        stack.push(root)?;
-                    }
+                    self.begin(&mut stack, left_nodes[left])?;
                 }
                 Some(top) => {
                     if let Some(k) = threads.take(top) {
-                        stack.push(top)?;
-                        if k < edges.len() && groups.is_new(edges[k].from) {
-                            let node = edges[k].from;
-                            groups.add(node, groups.root(top), k)?;
-                            stack.push(node)?;
-                        }
+                        self.follow(&mut stack, edges, top, k)?;
                     }
                 }
             }
         }
-        Ok(groups)
+        Ok(())
+    }
+
+    /// Begins a group at a root that is new.
+    fn begin(&mut self, stack: &mut Vec<usize>, root: usize) -> Result<(), NoMemory> {
+        if self.is_new(root) {
+            self.starts.push(self.nodes.len())?;
+            self.add(root, root, NONE)?;
+            stack.push(root)?;
+        }
+        Ok(())
+    }
+
+    /// Goes back along an edge of a node to one that is new.
+    fn follow(
+        &mut self,
+        stack: &mut Vec<usize>,
+        edges: &[Edge],
+        top: usize,
+        k: usize,
+    ) -> Result<(), NoMemory> {
+        stack.push(top)?;
+        if k < edges.len() && self.is_new(edges[k].from) {
+            let node = edges[k].from;
+            let root = self.root(top);
+            self.add(node, root, k)?;
+            stack.push(node)?;
+        }
+        Ok(())
     }
 
     fn is_new(&self, node: usize) -> bool {
@@ -197,28 +234,78 @@ fn found_by(
     Ok(steps)
 }
 
+/// Adds the edges that bring to the root of a group what its other nodes have.
+fn add_found(
+    alloc: Global,
+    steps: &mut Vec<Step>,
+    lists: &[Items<u32>],
+    groups: &Groups,
+    group: &[usize],
+    seen: &mut Vec<bool>,
+) -> Result<(), NoMemory> {
+    let found = found_by(alloc, lists, groups, group, seen)?;
+    for step in found.iter().rev() {
+        steps.push(*step)?;
+    }
+    Ok(())
+}
+
+/// Adds the edges of a group that lead towards its root.
+fn add_ahead(
+    steps: &mut Vec<Step>,
+    edges: &Edges,
+    groups: &Groups,
+    group: &[usize],
+) -> Result<(), NoMemory> {
+    for node in group {
+        if let Some(step) = groups.step_ahead(edges, *node) {
+            steps.push(step)?;
+        }
+    }
+    Ok(())
+}
+
+/// Adds the edges of a group.
+fn add_group(
+    alloc: Global,
+    steps: &mut Vec<Step>,
+    lists: &[Items<u32>],
+    edges: &Edges,
+    groups: &Groups,
+    group: &[usize],
+    seen: &mut Vec<bool>,
+) -> Result<(), NoMemory> {
+    for node in group {
+        add_edges(steps, lists, *node)?;
+    }
+    if group.len() > 1 {
+        add_found(alloc, steps, lists, groups, group, seen)?;
+        add_ahead(steps, edges, groups, group)?;
+    }
+    Ok(())
+}
+
+/// Adds the edges of all groups, those of the last one first.
+fn add_groups(
+    alloc: Global,
+    steps: &mut Vec<Step>,
+    lists: &[Items<u32>],
+    edges: &Edges,
+    groups: &Groups,
+) -> Result<(), NoMemory> {
+    let mut seen: Vec<bool> = vec![in alloc; false; lists.len()]?;
+    for back in 0..groups.starts.len() {
+        let group = groups.group(groups.starts.len() - 1 - back);
+        add_group(alloc, steps, lists, edges, groups, group, &mut seen)?;
+    }
+    Ok(())
+}
+
 /// The edges in an order in which what they lead to is soon complete.
 pub fn order(alloc: Global, lists: &[Items<u32>]) -> Result<Vec<Step>, NoMemory> {
     let edges = Edges::new(alloc, lists)?;
     let groups = Groups::new(alloc, lists.len(), &edges.edges)?;
-    let mut seen: Vec<bool> = vec![in alloc; false; lists.len()]?;
     let mut steps = Vec::new(alloc);
-    for back in 0..groups.starts.len() {
-        let group = groups.group(groups.starts.len() - 1 - back);
-        for node in group {
-            add_edges(&mut steps, lists, *node)?;
-        }
-        if group.len() > 1 {
-            let found = found_by(alloc, lists, &groups, group, &mut seen)?;
-            for step in found.iter().rev() {
-                steps.push(*step)?;
-            }
-            for node in group {
-                if let Some(step) = groups.step_ahead(&edges, *node) {
-                    steps.push(step)?;
-                }
-            }
-        }
-    }
+    add_groups(alloc, &mut steps, lists, &edges, &groups)?;
     Ok(steps)
 }

@@ -59,23 +59,33 @@ pub fn turns(count: usize, edges: &[Edge]) -> usize {
     count.saturating_add(count).saturating_add(edges.len())
 }
 
-/// The nodes in the order in which a search leaves them, each behind those to which its edges lead, but on cycles.
-pub fn left_order(alloc: Global, count: usize, edges: &[Edge]) -> Result<Vec<usize>, NoMemory> {
-    let mut threads = Threads::new(alloc, count, edges, true)?;
-    let mut seen: Vec<bool> = vec![in alloc; false; count]?;
+/// Puts a node on the stack that was not seen yet.
+fn visit(stack: &mut Vec<usize>, seen: &mut Vec<bool>, node: usize) -> Result<(), NoMemory> {
+    if node < seen.len() && !seen[node] {
+        seen[node] = true;
+        stack.push(node)?;
+    }
+    Ok(())
+}
+
+/// Adds the nodes in the order in which a search leaves them, in so many turns.
+fn leave(
+    alloc: Global,
+    left: &mut Vec<usize>,
+    seen: &mut Vec<bool>,
+    threads: &mut Threads,
+    edges: &[Edge],
+    many: usize,
+) -> Result<(), NoMemory> {
     let mut stack: Vec<usize> = Vec::new(alloc);
-    let mut left: Vec<usize> = Vec::new(alloc);
     let mut root: usize = 0;
-    for _ in 0..turns(count, edges) {
+    for _ in 0..many {
         match stack.pop() {
             None => {
                 if root >= seen.len() {
                     break;
                 }
-                if !seen[root] {
-                    seen[root] = true;
-                    stack.push(root)?;
-                }
+                visit(&mut stack, seen, root)?;
                 root += 1;
             }
             Some(top) => match threads.take(top) {
@@ -83,15 +93,21 @@ pub fn left_order(alloc: Global, count: usize, edges: &[Edge]) -> Result<Vec<usi
                 Some(k) => {
                     stack.push(top)?;
                     if k < edges.len() {
-                        let to = edges[k].to;
-                        if to < seen.len() && !seen[to] {
-                            seen[to] = true;
-                            stack.push(to)?;
-                        }
+                        visit(&mut stack, seen, edges[k].to)?;
                     }
                 }
             },
         }
     }
+    Ok(())
+}
+
+/// The nodes in the order in which a search leaves them, each behind those to which its edges lead, but on cycles.
+pub fn left_order(alloc: Global, count: usize, edges: &[Edge]) -> Result<Vec<usize>, NoMemory> {
+    let mut threads = Threads::new(alloc, count, edges, true)?;
+    let mut seen: Vec<bool> = vec![in alloc; false; count]?;
+    let mut left: Vec<usize> = Vec::new(alloc);
+    let many = turns(count, edges);
+    leave(alloc, &mut left, &mut seen, &mut threads, edges, many)?;
     Ok(left)
 }
