@@ -15,11 +15,24 @@ use std::alloc::Global;
 
 /// What the routines of a program declare: of each function, of each member of each class (nothing of a section), and of the body of
 /// each class and program.
-#[derive(Drop)]
 pub struct RoutineTables<'p> {
     pub functions: Items<Entry<'p>>,
     pub methods: Items<Items<Entry<'p>>>,
     pub bodies: Items<Entry<'p>>,
+}
+
+// By hand, so that a drop is one call: a derived one is written out wherever a `?` may need it.
+impl Drop for RoutineTables<'_> {
+    fn drop(self) {
+        let RoutineTables {
+            functions,
+            methods,
+            bodies,
+        } = self;
+        drop(functions);
+        drop(methods);
+        drop(bodies);
+    }
 }
 
 #[tactic(auto, using(crate::proofs::TableLaws::none_yet, crate::proofs::TableLaws::one_more))]
