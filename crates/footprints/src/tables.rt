@@ -1,6 +1,9 @@
 //! All that footprints go by, found once for a program.
 
-ghost use Rattle.std.specs.Prelude.{◌≡◌, IfOk};
+ghost use Rattle.std.specs.Prelude.{◌≡◌, length, IfOk};
+ghost use Rattle.st_values.specs.View.{program_of};
+ghost use Rattle.region_instances.specs.Instances.{RegionsUnfold};
+ghost use Rattle.footprints.specs.Private.Holders.{AreAllHolders};
 ghost use Rattle.footprints.specs.Private.Tables.{AreTables};
 
 use crate::holders::holders;
@@ -49,6 +52,22 @@ impl Drop for Tables<'_> {
     }
 }
 
+/// The regions that hold instances of each class of a program.
+fn class_holders(
+    alloc: Global,
+    tables: &ProgramTables,
+    program: &Program,
+) -> Result<Vec<Items<u32>>, NoMemory>
+    requires { tables.now ≡ program.now }
+    ensures length { IfOk result (λ lists. length lists.items ≡ length (program_of program.now).classes) }
+    ensures each { IfOk result (λ lists. RegionsUnfold (program_of program.now) → AreAllHolders (program_of program.now) (length (program_of program.now).regions) lists.items) }
+{
+    let regions = narrowed(program.regions.len())?;
+    let classes = narrowed(tables.class_count())?;
+    let instances = RegionInstances::build(alloc, program)?;
+    holders(alloc, &instances, regions, classes)
+}
+
 /// The tables of a program.
 pub fn build_tables(alloc: Global, program: &Program) -> Result<Tables<'_>, NoMemory>
     ensures tables { IfOk result (λ made. AreTables made) }
@@ -58,10 +77,7 @@ pub fn build_tables(alloc: Global, program: &Program) -> Result<Tables<'_>, NoMe
     let routines = routine_tables(alloc, &tables, program)?;
     let signatures = signature_tables(alloc, program)?;
     let conformers = Conformers::build(alloc, &tables, program)?;
-    let instances = RegionInstances::build(alloc, program)?;
-    let regions = narrowed(program.regions.len())?;
-    let classes = narrowed(tables.class_count())?;
-    let holders = holders(alloc, &instances, regions, classes)?;
+    let holders = class_holders(alloc, &tables, program)?;
     let inputs = inputs(alloc, program)?;
     Ok(Tables {
         program,
