@@ -209,7 +209,7 @@ pub record Started (rows : List (List ℕ)) (n columns words : ℕ) : Type 0 whe
   pub wide : (i : ℕ) → i < n → length (get_or rows i []) ≡ words
   pub bits : (i j : ℕ) → i < n → reaches rows i j ≡ (nat_eq j i && nat_lt i columns)
 
-pub started_more : (rows : List (List ℕ)) (n columns words : ℕ) (row : List ℕ) → Started rows n columns words → length row ≡ words → ((j : ℕ) → has_bit row j ≡ (nat_eq j n && nat_lt n columns)) → Started (rows ++ row ∷ []) (n + 1) columns words
+started_more : (rows : List (List ℕ)) (n columns words : ℕ) (row : List ℕ) → Started rows n columns words → length row ≡ words → ((j : ℕ) → has_bit row j ≡ (nat_eq j n && nat_lt n columns)) → Started (rows ++ row ∷ []) (n + 1) columns words
 started_more rows n columns words row s long bits = record {
   many = let l = length-append rows (row ∷ []) in let m = s.many in omega arith;
   wide = λ i h. elim (cases (nat_eq i n)) [ inl p ↦ ap length (last i p) ∙ long | inr p ↦ ap length (front i (lower i h p)) ∙ s.wide i (lower i h p) ];
@@ -227,6 +227,9 @@ started_more rows n columns words row s long bits = record {
 
     front : (i : ℕ) → i < n → get_or (rows ++ row ∷ []) i [] ≡ get_or rows i []
     front i h = let m = s.many in let w : i < length rows = omega arith in get_or-append rows (row ∷ []) [] i w
+
+pub started_next : (rows new : List (List ℕ)) (n columns words : ℕ) (row : List ℕ) → new ≡ rows ++ row ∷ [] → Started rows n columns words → length row ≡ words → ((j : ℕ) → has_bit row j ≡ (nat_eq j n && nat_lt n columns)) → Started new (n + 1) columns words
+started_next rows new n columns words row e s long bits = subst (λ (rs : List (List ℕ)). Started rs (n + 1) columns words) (sym e) (started_more rows n columns words row s long bits)
 
 pub started_even : (rows : List (List ℕ)) (n columns words : ℕ) → Started rows n columns words → AreEven rows
 started_even rows n columns words s = record { even = λ i k h l. let m = s.many in let a : i < n = omega arith in let b : k < n = omega arith in s.wide i a ∙ sym (s.wide k b) }
