@@ -32,7 +32,7 @@ use Rattle.st_unit_rules.specs.DeclarationRules.{class_home, group_faults, field
 use Rattle.st_unit_rules.specs.UnitRefusal.{BreaksNothing}
 use Rattle.st_unit_rules.specs.VariableRules.{Home, of_class, of_block, of_program, of_routine, of_prototype, of_globals, may_hold_instances, holds_instances_told, class_held, is_abstract_class, makes_instances}
 use Rattle.st_values.specs.Program as seen
-use Rattle.st_values.specs.Program.{Variable, Program}
+use Rattle.st_values.specs.Program.{Variable}
 use Rattle.st_values.specs.View.{sections_in as seen_sections, region_of, program_of}
 use Rattle.st_values.proofs.ShapeLaws.{mapped_some}
 use Rattle.st_meaning.specs.st_frame.Promise.Calls.{HasInstance}

@@ -15,7 +15,7 @@ use Rattle.st_unit_rules.specs.VariableRules.{class_held, is_abstract_class}
 use Rattle.st_values.specs.Program as seen
 use Rattle.st_values.specs.Program.{Variable, Class, Program, class_at, class_variables}
 use Rattle.st_values.specs.Shape as shape
-use Rattle.st_values.specs.Shape.{Shape, Fields, no_fields, field_then, fields_by, fields_of, shape_by, shape_within, simple_shape, element_shape, shape_part, shape_at, region_shape, path_shape, field, extent}
+use Rattle.st_values.specs.Shape.{Shape, Fields, no_fields, field_then, fields_by, fields_of, shape_by, shape_within, simple_shape, element_shape, shape_part, shape_at, region_shape, field, extent}
 use Rattle.st_values.specs.Value.{place_of_index, ◌>>=◌}
 use Rattle.st_values.proofs.ShapeLaws.{mapped_some}
 use Rattle.st_values.proofs.ValueLaws.{then_some}

@@ -21,7 +21,7 @@ use Rattle.st_unit_rules.specs.VariableRules.{holds_instances_told}
 use Rattle.st_values.specs.Program as seen
 use Rattle.st_values.specs.Program.{Variable, Class, Program, class_at}
 use Rattle.st_values.specs.Shape as shape
-use Rattle.st_values.specs.Shape.{Shape, Fields, no_fields, field_then, fields_by, fields_of, simple_shape, shape_by, shape_within, has_instance, a_field_has_instance, extent}
+use Rattle.st_values.specs.Shape.{Shape, Fields, field_then, fields_by, fields_of, simple_shape, shape_by, shape_within, has_instance, a_field_has_instance, extent}
 use Rattle.st_values.specs.Value.{◌>>=◌}
 use Rattle.st_values.specs.View.{program_of}
 use Rattle.st_values.proofs.ShapeLaws.{mapped_some}

@@ -25,7 +25,7 @@ use Rattle.st_unit_rules.specs.NameRules.{space_faults, part_names}
 use Rattle.st_unit_rules.specs.UnitRefusal.{BreaksNothing}
 use Rattle.resolution_order.specs.told_laws.ToldLaws.{Every}
 use Rattle.accepted_texts.specs.formed_units.Formed as formed
-use Rattle.accepted_texts.specs.formed_units.Formed.{FormedItem, FormedGlobals, FormedDecl, IsFormed}
+use Rattle.accepted_texts.specs.formed_units.Formed.{FormedGlobals, FormedDecl, IsFormed}
 use Rattle.accepted_texts.proofs.formed_texts.Units.{over}
 use Rattle.accepted_texts.proofs.unfolding_laws.CycleLaws.{none_in, none_of_each, none_there, all_placed}
 use Rattle.accepted_texts.proofs.unfolding_laws.ListLaws.{every_append, every_at, every_back, every_front, every_from, every_map, every_mapped, every_joined, every_means, every_one}

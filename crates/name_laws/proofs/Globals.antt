@@ -4,7 +4,6 @@ use Rattle.std.specs.Prelude.{if◌then◌else◌, not, ◌||◌, nat_lt, filter
 use Rattle.std.specs.List.{list_any}
 use Rattle.std.proofs.lemmas.List.Concat.{flat_map-append}
 use Rattle.plc_text.specs.declared.code.Code.TheVariants.{E15}
-use Rattle.st_tree.specs.declared.configuration.Configuration.{Configuration}
 use Rattle.st_tree.specs.declared.configuration.InstanceSpec.{InstanceSpec}
 use Rattle.st_tree.specs.declared.declaration.FunctionDecl.{FunctionDecl}
 use Rattle.st_tree.specs.declared.declaration.Item.{Item}

@@ -13,7 +13,6 @@ use Rattle.st_tree.specs.declared.type_spec.TypeSpec.{TypeSpec}
 use Rattle.st_tree.specs.Statement.{Statements}
 use Rattle.st_rules.specs.declared.names.DeclaredVariable.{DeclaredVariable}
 use Rattle.st_rules.specs.Calls as calls
-use Rattle.st_rules.specs.Expressions.{told}
 use Rattle.st_rules.specs.Scope.{Scope, variable_named, is_external}
 use Rattle.st_rules.specs.Signatures.{is_parameter_sort}
 use Rattle.st_rules.proofs.Booleans.{none≢some, some-same, false≢true}

@@ -1,5 +1,5 @@
 -- The checked program of a good unit that is formed keeps what is promised to its meaning.
-use Rattle.std.proofs.Common.{◌≡◌, ℕ, true, List, Option, Some, None, sym, subst}
+use Rattle.std.proofs.Common.{◌≡◌, ℕ, true, List, Option, subst}
 use Rattle.st_types.specs.declared.st_type.StType.{StType}
 use Rattle.st_tree.specs.declared.program.Program.{Program as Checked}
 use Rattle.st_tree.specs.declared.program.Target.{Target}
@@ -22,7 +22,6 @@ use Rattle.constant_laws.proofs.Constants.{ConstantFits, MeantFits, ScopeFits}
 use Rattle.initial_laws.proofs.Meanings.{written_fits}
 use Rattle.declaration_laws.proofs.Whole.{declaration_laws}
 use Rattle.place_laws.specs.Agrees.{ConstantIs}
-use Rattle.promise_laws.specs.BodiesAre.{BodiesAre}
 use Rattle.promise_laws.proofs.Bodies.{bodies_are}
 use Rattle.promise_laws.proofs.Joined.{program_is}
 use Rattle.scope_laws.specs.Agreement.{HasNumbers, MeetsInterfaces}

@@ -32,11 +32,11 @@ use Rattle.st_unit_rules.specs.DeclarationRules.{item_too_deep, body_locals as b
 use Rattle.st_unit_rules.specs.Limits.{all_values, too_many_methods, too_many_parameters, too_many_locals, too_many_bases}
 use Rattle.st_unit_rules.specs.UnitRefusal.{BreaksNothing}
 use Rattle.st_values.specs.Program as seen
-use Rattle.st_values.specs.Program.{Variable, to_local, to_variable, Parameter, Routine, Class, class_at, class_variables, conforms, body_of}
+use Rattle.st_values.specs.Program.{Variable, to_local, to_variable, Parameter, Routine, class_variables, conforms, body_of}
 use Rattle.st_values.specs.View.{is_kept, is_of_body, those, variables_in, sections_in, declared_by, declared_along, body_parameters, class_of, program_of}
 use Rattle.st_meaning.specs.st_frame.Footprint.{Enters, by_body, by_base}
 use Rattle.st_meaning.specs.st_frame.Use.{Called, a_body_of, the_body_from, called_parameters}
-use Rattle.st_meaning.specs.st_frame.Promise.Calls.{IsLiving, Answers, SameInOuts, most_parameters}
+use Rattle.st_meaning.specs.st_frame.Promise.Calls.{IsLiving, Answers, most_parameters}
 use Rattle.resolution_order.specs.told_laws.ToldLaws.{Every}
 use Rattle.resolution_order.proofs.told_laws.Telling.{told_laws}
 use Rattle.accepted_texts.specs.formed_units.Formed.{IsFormed}

@@ -1,6 +1,6 @@
 -- Where the text of a class, a method, a function or a program stands, the rules and the meaning agree on what names are.
 use Rattle.std.proofs.Common.{◌≡◌, ℕ, zero, suc, Bool, true, false, List, [], ◌∷◌, length, reverse, Option, Some, None, refl, sym, ap, ◌∙◌, subst, inl, inr, nat_eq}
-use Rattle.std.specs.Prelude.{if◌then◌else◌, not, ◌&&◌, ◌||◌, filter, option_map, option_and_then, slice_get, IsTrue}
+use Rattle.std.specs.Prelude.{if◌then◌else◌, not, ◌&&◌, ◌||◌, filter, option_map, option_and_then, slice_get}
 use Rattle.std.specs.List.{list_any}
 use Rattle.std.specs.Option.{is_none, is_some}
 use Rattle.std.proofs.lemmas.Bool.{eq-eqb}
@@ -27,7 +27,6 @@ use Rattle.st_rules.specs.Calls.{block_parameters, has_in_outs, is_in_out_sort}
 use Rattle.st_rules.specs.Chains.{is_among, nearest, ◌or_else◌, directly}
 use Rattle.st_rules.specs.Classes.{classes_in, base_of, chain, class_named, lookup}
 use Rattle.st_rules.specs.ClassRules.{class_faults}
-use Rattle.st_rules.specs.Expressions.{told}
 use Rattle.st_rules.specs.Interfaces.{interfaces_in, interface_lookup, own_prototype, prototype_names, prototype_id, prototype_within, first_with, has_prototype, extended, interfaces_named}
 use Rattle.st_rules.specs.Named.{first_place}
 use Rattle.st_rules.specs.Places.{Standing, untold, own_instance, no_base, is_told, super_standing, name_out_of_access, member_out_of_access, body_variable_in_a_method}
@@ -68,7 +67,7 @@ use Rattle.place_laws.specs.Agrees.{Runs, ConstantIs, OneOf, HasPlace, MethodIs,
 use Rattle.place_laws.proofs.Places.{told_as}
 use Rattle.scope_laws.specs.Agreement.{HasNumbers, MeetsInterfaces}
 use Rattle.scope_laws.proofs.Blocks as Blocks
-use Rattle.scope_laws.proofs.Entered.{lookup_range, function_runs, method_runs, interface_runs}
+use Rattle.scope_laws.proofs.Entered.{function_runs, method_runs, interface_runs}
 use Rattle.name_laws.proofs.Fields.{field_shown}
 use Rattle.name_laws.proofs.Globals.{GlobalAt, globals_are}
 use Rattle.name_laws.proofs.PlaceTypes.{KindFine, place_named}
