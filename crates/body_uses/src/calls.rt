@@ -31,7 +31,7 @@ pub struct Callables<'a, 'p> {
 }
 
 /// The type of a whole place.
-fn last_kind<'p>(kind: &'p StType, selectors: &'p [Selector<Note>]) -> &'p StType
+pub fn last_kind<'p>(kind: &'p StType, selectors: &'p [Selector<Note>]) -> &'p StType
     ensures { result.now ≡ words.last_kind kind.now (selectors_of selectors.now) }
 {
     let mut at = kind;
@@ -42,7 +42,7 @@ fn last_kind<'p>(kind: &'p StType, selectors: &'p [Selector<Note>]) -> &'p StTyp
 }
 
 /// The type on which a method is called: that of the place before its name; a bare name has that of THIS.
-fn receiver<'p>(kind: &'p StType, selectors: &'p [Selector<Note>]) -> &'p StType
+pub fn receiver<'p>(kind: &'p StType, selectors: &'p [Selector<Note>]) -> &'p StType
     ensures { result.now ≡ words.receiver kind.now (selectors_of selectors.now) }
 {
     match selectors {

@@ -26,7 +26,8 @@ pub fn given_value(to: Recipient, v: Value) -> Given
     }
 }
 
-fn number_to(to: Recipient) -> u32
+/// The number of the local or the variable to which an argument goes.
+pub fn number_to(to: Recipient) -> u32
     ensures { result ≡ words.number_to (recipient_of to) }
 {
     match to {
@@ -49,13 +50,15 @@ pub fn is_in_out(sort: SectionSort) -> bool
     matches!(sort, SectionSort::InOut)
 }
 
-fn is_output(sort: SectionSort) -> bool
+/// Whether a parameter is an output.
+pub fn is_output(sort: SectionSort) -> bool
     ensures { result ≡ words.is_output sort }
 {
     matches!(sort, SectionSort::Output)
 }
 
-fn parameter_number(target: &Target) -> u32
+/// The number of the parameter that an argument names.
+pub fn parameter_number(target: &Target) -> u32
     ensures { result ≡ words.parameter_number target.now }
 {
     match target {

@@ -30,7 +30,8 @@ fn end_note(end: &LabelEnd<Note>) -> &Note
     }
 }
 
-fn end_value(end: &LabelEnd<Note>) -> i128
+/// The number of an end of a label.
+pub fn end_value(end: &LabelEnd<Note>) -> i128
     ensures { result ≡ words.end_value end.now }
 {
     constant(&end_note(end).target)

@@ -6,7 +6,7 @@ mod operations;
 mod places;
 mod values;
 
-pub use labels::hold;
+pub use labels::{constant, end_value, hold};
 pub use operations::{complemented, is_decided, literal_value, negated, operate};
 pub use places::{
     element_kind, followed, held_spot, index_in, instance_of, named_spot, part_named, place_value,
