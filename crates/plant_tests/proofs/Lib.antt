@@ -1,2 +1,2 @@
 mod CallLaws
-mod Inputs
+pub mod Inputs
