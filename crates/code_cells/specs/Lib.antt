@@ -1,0 +1,4 @@
+pub mod Cell
+pub mod Found
+pub mod Settled
+pub mod Private
