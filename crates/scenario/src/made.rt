@@ -8,12 +8,11 @@ ghost use Rattle.scenario.specs.Private.Made as pieces;
 ghost use Rattle.scenario.specs.Reading.{phases_from};
 ghost use Rattle.scenario.specs.Scenario.{contents_of};
 
-use crate::scenario::Scenario;
+use crate::scenario::{Scenario, shared};
 use cycle_journal::Play;
 use plc_text::{Items, NoMemory, Text};
 use st_names::{AddError, Names};
 use std::alloc::Global;
-use std::sync::Arc;
 
 /// The lines of a source from the statement on `sum` on.
 const SOURCE_REST: &str = "sum := sum * 3 + a; Step := sum; END_METHOD END_FUNCTION_BLOCK
@@ -32,12 +31,10 @@ pub fn make_load(alloc: Global, rounds: u32) -> Result<Scenario, NoMemory>
     requires { rounds ≤ 250 }
     ensures { IfOk result (λ scenario. contents_of scenario ≡ made_of.made rounds) }
 {
-    Ok(Scenario {
-        program: source_a(alloc)?,
-        sources: Arc::new(alloc, sources(alloc)?)?,
-        plays: Arc::new(alloc, plays(alloc, rounds)?)?,
-        phases: Arc::new(alloc, phases(alloc, rounds)?)?,
-    })
+    let plays = plays(alloc, rounds)?;
+    let phases = phases(alloc, rounds)?;
+    let sources = sources(alloc)?;
+    shared(alloc, source_a(alloc)?, sources, plays, phases)
 }
 
 fn source_a(alloc: Global) -> Result<Text, NoMemory>
@@ -69,9 +66,18 @@ fn sources(alloc: Global) -> Result<Names<Text>, NoMemory>
     ensures { IfOk result (λ sources. sources ≡ (codes "A", text_of made_of.source_a) ∷ (codes "B", text_of made_of.source_b) ∷ []) }
 {
     let mut sources = Names::new(alloc);
-    add(&mut sources, Text::copy(alloc, "A")?, source_a(alloc)?)?;
-    add(&mut sources, Text::copy(alloc, "B")?, source_b(alloc)?)?;
+    add_sources(alloc, &mut sources)?;
     Ok(sources)
+}
+
+/// Adds both sources, where there are none.
+fn add_sources(alloc: Global, sources: &mut Names<Text>) -> Result<(), NoMemory>
+    requires { sources.old ≡ [] }
+    ensures { OnOk result (sources.new ≡ (codes "A", text_of made_of.source_a) ∷ (codes "B", text_of made_of.source_b) ∷ []) }
+{
+    add(sources, Text::copy(alloc, "A")?, source_a(alloc)?)?;
+    add(sources, Text::copy(alloc, "B")?, source_b(alloc)?)?;
+    Ok(())
 }
 
 /// Adds a source whose name is not taken.

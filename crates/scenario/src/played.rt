@@ -49,6 +49,21 @@ impl Played {
         }
     }
 
+    /// The plays, and the phases that have ended.
+    pub fn into_parts(self) -> (Items<Play>, Items<(u32, u32)>)
+        ensures plays { result.0 ≡ self.plays }
+        ensures phases { result.1 ≡ self.phases }
+    {
+        let Played {
+            plays,
+            phases,
+            tasks,
+            ..
+        } = self;
+        drop(tasks);
+        (plays, phases)
+    }
+
     /// Ends the phase, and begins the next one.
     pub fn end_phase(&mut self) -> Result<(), NoMemory>
         ensures { OnOk result (self.new ≡ so_far.with_phase self.old) }

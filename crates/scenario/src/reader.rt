@@ -8,12 +8,11 @@ ghost use Rattle.scenario.specs.Private.Reader as machine;
 
 use crate::play_line::{place_of, read_play};
 use crate::played::Played;
-use crate::scenario::Scenario;
+use crate::scenario::{Scenario, shared};
 use plc_text::{NoMemory, Text, is_word};
 use st_names::{AddError, Names};
 use std::alloc::Global;
 use std::mem;
-use std::sync::Arc;
 
 /// How many sources a scenario may have.
 const SOURCE_LIMIT: u32 = 256;
@@ -208,17 +207,14 @@ impl Reader {
             part: _,
             program,
             sources,
-            name: _,
-            text: _,
+            name,
+            text,
             played,
         } = self;
-        let Played { plays, phases, .. } = played;
-        Ok(Scenario {
-            program,
-            sources: Arc::new(alloc, sources)?,
-            plays: Arc::new(alloc, plays)?,
-            phases: Arc::new(alloc, phases)?,
-        })
+        drop(name);
+        drop(text);
+        let (plays, phases) = played.into_parts();
+        shared(alloc, program, sources, plays, phases)
     }
 }
 

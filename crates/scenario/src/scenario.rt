@@ -1,10 +1,12 @@
 //! What a scenario holds.
 
-ghost use Rattle.std.specs.Prelude.{◌≡◌};
+ghost use Rattle.std.specs.Prelude.{◌≡◌, IfOk};
+ghost use Rattle.scenario.specs.Scenario.{contents_of};
 
 use cycle_journal::Play;
-use plc_text::{Items, Text};
+use plc_text::{Items, NoMemory, Text};
 use st_names::Names;
+use std::alloc::Global;
 use std::sync::Arc;
 
 /// A first program, the sources that changes load in its place, and the plays. Threads share all but the program.
@@ -52,4 +54,25 @@ impl Scenario {
         drop(program);
         (plays, sources, phases)
     }
+}
+
+/// A scenario of these parts.
+pub(crate) fn shared(
+    alloc: Global,
+    program: Text,
+    sources: Names<Text>,
+    plays: Items<Play>,
+    phases: Items<(u32, u32)>,
+) -> Result<Scenario, NoMemory>
+    ensures { IfOk result (λ scenario. contents_of scenario ≡ record { program = program; sources = sources; plays = plays; phases = phases }) }
+{
+    let sources = Arc::new(alloc, sources)?;
+    let plays = Arc::new(alloc, plays)?;
+    let phases = Arc::new(alloc, phases)?;
+    Ok(Scenario {
+        program,
+        sources,
+        plays,
+        phases,
+    })
 }
