@@ -37,15 +37,19 @@ placed name_of name (x ∷ xs) k e = by (same (name_of x) name) refl (λ j. plac
         later (Some j) g h = let z = r j g in subst (λ i. (y : _) × (slice_get (x ∷ xs) i ≡ Some y) × (same (name_of y) name ≡ true)) (some-same h) (z.0, z.1, z.2)
 
 module _ {V : Type 0} (same_value : V → V → Bool) (classes : List (ClassDecl ℕ)) (signatures : Signatures V) (good : (c : ℕ) → class_faults same_value classes signatures c ≡ []) (names : (a b : List ℕ) → same a b ≡ true → a ≡ b) where
-  -- a method that a class declares is like the one that it overrides
-  own_like : (c : ℕ) (name : List ℕ) (id over : MethodId) → own_method classes name c ≡ Some id → inherited same_value classes signatures c name ≡ Some over → differ same_value (signature_of signatures id) (signature_of signatures over) ≡ false
-  own_like c name id over e h = by (slice_get classes c) refl e
+  -- what the rules say of a method that a class declares: it has the signature of the one that it overrides, and of the hook of its name
+  pub record OwnRules (c : ℕ) (name : List ℕ) (id : MethodId) : Type 0 where
+    pub overrides : has_other_signature same_value classes signatures id (inherited same_value classes signatures c name) ≡ false
+    pub hook : is_no_hook same_value classes signatures id name ≡ false
+
+  pub own_rules : (c : ℕ) (name : List ℕ) (id : MethodId) → own_method classes name c ≡ Some id → OwnRules c name id
+  own_rules c name id e = by (slice_get classes c) refl e
     where
-      by : (o : Option (ClassDecl ℕ)) → slice_get classes c ≡ o → option_map (method_id c) (option_and_then (λ class. first_place name (method_names class)) o) ≡ Some id → differ same_value (signature_of signatures id) (signature_of signatures over) ≡ false
+      by : (o : Option (ClassDecl ℕ)) → slice_get classes c ≡ o → option_map (method_id c) (option_and_then (λ class. first_place name (method_names class)) o) ≡ Some id → OwnRules c name id
       by None q f = absurd (none≢some f)
       by (Some class) q f = at (first_place name (method_names class)) refl f
         where
-          at : (o : Option ℕ) → first_place name (method_names class) ≡ o → option_map (method_id c) o ≡ Some id → differ same_value (signature_of signatures id) (signature_of signatures over) ≡ false
+          at : (o : Option ℕ) → first_place name (method_names class) ≡ o → option_map (method_id c) o ≡ Some id → OwnRules c name id
           at None g k = absurd (none≢some k)
           at (Some m) g k =
               let x = placed (λ (z : Method ℕ). z.name.text) name (methods_in class.members) m g in
@@ -54,7 +58,7 @@ module _ {V : Type 0} (same_value : V → V → Bool) (classes : List (ClassDecl
               let z : 0 + m ≡ m = omega arith in
               other m x.0 (names x.0.name.text name x.2) (subst (λ j. method_faults same_value classes signatures c class j x.0 ≡ []) z mine) (some-same k)
             where
-              other : (j : ℕ) (method : Method ℕ) → method.name.text ≡ name → method_faults same_value classes signatures c class j method ≡ [] → method_id c j ≡ id → differ same_value (signature_of signatures id) (signature_of signatures over) ≡ false
+              other : (j : ℕ) (method : Method ℕ) → method.name.text ≡ name → method_faults same_value classes signatures c class j method ≡ [] → method_id c j ≡ id → OwnRules c name id
               other j method n fault w =
                   let over' = inherited same_value classes signatures c method.name.text in
                   let overridden = option_and_then (method_at classes) over' in
@@ -65,8 +69,12 @@ module _ {V : Type 0} (same_value : V → V → Bool) (classes : List (ClassDecl
                   let e2 = none_in (final_method_overridden method overridden ++ private_method_overridden method overridden ++ overridden_with_other_access method overridden ++ overridden_with_other_signature method (has_other_signature same_value classes signatures (method_id c j) over')) (nothing_to_override method overridden) e1.0 in
                   let four' = four (final_method_overridden method overridden) (private_method_overridden method overridden) (overridden_with_other_access method overridden) (overridden_with_other_signature method (has_other_signature same_value classes signatures (method_id c j) over')) e2.0 in
                   let r : has_other_signature same_value classes signatures (method_id c j) over' ≡ false = not_when (has_other_signature same_value classes signatures (method_id c j) over') E12 method.line four'.3 in
-                  let o : over' ≡ Some over = ap (inherited same_value classes signatures c) n ∙ h in
-                  subst (λ y. differ same_value (signature_of signatures y) (signature_of signatures over) ≡ false) w (subst (λ y. has_other_signature same_value classes signatures (method_id c j) y ≡ false) o r)
+                  let h : is_no_hook same_value classes signatures (method_id c j) method.name.text ≡ false = not_when (is_no_hook same_value classes signatures (method_id c j) method.name.text) E12 method.line d.1 in
+                  subst (OwnRules c name) w (subst (λ t. OwnRules c t (method_id c j)) n (record { overrides = r; hook = h }))
+
+  -- a method that a class declares is like the one that it overrides
+  own_like : (c : ℕ) (name : List ℕ) (id over : MethodId) → own_method classes name c ≡ Some id → inherited same_value classes signatures c name ≡ Some over → differ same_value (signature_of signatures id) (signature_of signatures over) ≡ false
+  own_like c name id over e h = subst (λ o. has_other_signature same_value classes signatures id o ≡ false) h (own_rules c name id e).overrides
 
   -- by any relation that a method found has to itself, and one of equal signature to the one that it overrides
   module _ (R : MethodId → MethodId → Type 0) (itself : (c : ℕ) (name : List ℕ) (i : MethodId) → lookup classes c name ≡ Some i → R i i) (through : (i j k : MethodId) → R i j → R j k → R i k)

@@ -122,7 +122,7 @@ module _ (decls : List (Decl ℕ)) (p : Checked) (checked : IsChecked decls p) w
         is = own_shown c d y.0 y.1 y.2 name ∙ a.found;
       })
 
-  own_none : (c : ℕ) (name : List ℕ) → There (ClassDecl ℕ) (classes_in decls) c → own_method (classes_in decls) name c ≡ None → Own name c ≡ None
+  pub own_none : (c : ℕ) (name : List ℕ) → There (ClassDecl ℕ) (classes_in decls) c → own_method (classes_in decls) name c ≡ None → Own name c ≡ None
   own_none c name t e =
       let d = t.item in
       let y = class_typed decls p checked c d t.there in

@@ -64,7 +64,7 @@ parameter_sorts false sort.Temp = refl
 parameter_sorts false sort.Global = refl
 parameter_sorts false sort.External = refl
 
-locals_long : (n : ℕ) (vs : List Variable) → length (local_parameters n vs) ≡ length vs
+pub locals_long : (n : ℕ) (vs : List Variable) → length (local_parameters n vs) ≡ length vs
 locals_long n [] = refl
 locals_long n (v ∷ vs) = ap suc (locals_long (suc n) vs)
 

@@ -10,7 +10,7 @@ use Rattle.console_command.specs.declared.outcome.Verdict.{Verdict}
 use Rattle.console_command.specs.declared.outcome.Verdict.TheVariants as verdict
 use Rattle.console.specs.declared.console_words.words.Order.{Order}
 use Rattle.console.specs.declared.console_words.words.Order.TheVariants.{Check, Play}
-use Rattle.source_check.specs.Judge.{Accepts, Refuses}
+use Rattle.accepted_texts.specs.st_accepted.Judge.{Accepts, Refuses}
 use Rattle.console.specs.play_console.Report.{PlayReports}
 
 abbrev pub outcome_of : Status → Outcome

@@ -1,3 +1,4 @@
 pub mod Bodies
 pub mod Joined
+pub mod Hooks
 pub mod Whole

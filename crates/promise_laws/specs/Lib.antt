@@ -1,2 +1,3 @@
 pub mod BodiesAre
+pub mod KeepsPromise
 pub mod PromiseLaws

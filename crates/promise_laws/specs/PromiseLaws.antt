@@ -1,5 +1,5 @@
--- The checked program of a good unit keeps what is promised: its declarations, its bodies and its classes are right.
-use Rattle.std.specs.Prelude.{◌≡◌, ℕ, List, Some, slice_get}
+-- The checked program of a good unit keeps what is promised: its declarations, its bodies, its classes and its hooks are right. So does each program as which a source is accepted.
+use Rattle.std.specs.Prelude.{◌≡◌, ◌≤◌, ℕ, List, Some, slice_get}
 use Rattle.st_tree.specs.declared.declaration.ClassDecl.{ClassDecl}
 use Rattle.st_tree.specs.declared.declaration.FunctionDecl.{FunctionDecl}
 use Rattle.st_tree.specs.declared.declaration.Method.{Method}
@@ -12,11 +12,15 @@ use Rattle.st_unit_rules.specs.declared_names.UnitNames.{unit_names, class_scope
 use Rattle.st_unit_rules.specs.Checked.{IsChecked}
 use Rattle.st_unit_rules.specs.RefusalLaws.{IsGood}
 use Rattle.st_unit_rules.specs.UnitRefusal.{BreaksNothing}
+use Rattle.st_values.specs.Program.{Program}
 use Rattle.st_values.specs.View.{program_of}
 use Rattle.st_meaning.specs.st_frame.Promise.Programs.{ProgramIs}
+use Rattle.st_change.specs.StoreLaws.{HooksAre, Promises}
 use Rattle.accepted_texts.specs.formed_units.Formed.{IsFormed}
+use Rattle.accepted_texts.specs.st_accepted.Judge.{Accepts, Holds}
 use Rattle.class_laws.specs.ClassLaws.{HasNoCycle}
 use Rattle.promise_laws.specs.BodiesAre.{BodiesAre}
+use Rattle.promise_laws.specs.KeepsPromise.{KeepsPromise}
 use Rattle.declaration_laws.specs.DeclarationsAre.{DeclarationsAre}
 use Rattle.scope_laws.specs.Agreement.{HasNumbers, MeetsInterfaces}
 
@@ -32,4 +36,10 @@ pub record PromiseLaws : Type 0 where
   -- declarations, bodies and the chains of classes together
   pub joined : (p : Checked) → HasNoCycle p → DeclarationsAre (program_of p) → BodiesAre (program_of p) → ProgramIs (program_of p)
   -- the checked program of a good unit that is formed keeps the promise
-  pub kept : (most : ℕ) (decls : List (Decl ℕ)) (p : Checked) → IsFormed most decls → IsGood decls → IsChecked decls p → ProgramIs (program_of p)
+  pub program : (most : ℕ) (decls : List (Decl ℕ)) (p : Checked) → IsFormed most decls → IsGood decls → IsChecked decls p → ProgramIs (program_of p)
+  pub hooks : (most : ℕ) (decls : List (Decl ℕ)) (p : Checked) → IsFormed most decls → IsGood decls → IsChecked decls p → HooksAre (program_of p)
+  pub kept : (most : ℕ) (decls : List (Decl ℕ)) (p : Checked) → most ≤ 4_294_967_296 → IsFormed most decls → IsGood decls → IsChecked decls p → KeepsPromise (program_of p)
+  -- and so does each program as which a source is accepted
+  pub held : (text : List ℕ) (p : Checked) → Holds text p → KeepsPromise (program_of p)
+  pub accepted : (text : List ℕ) (p : Program) → Accepts text p → KeepsPromise p
+  pub promises : Promises Accepts

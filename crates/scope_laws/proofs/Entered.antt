@@ -5,9 +5,6 @@ use Rattle.std.proofs.lemmas.Option.{slice_get-map, slice_get_within}
 use Rattle.st_rules.specs.Named.{first_place}
 use Rattle.std.proofs.lemmas.Bool.{eq-eqb}
 use Rattle.st_unit_rules.specs.declared_names.WrittenTypes.{type_written}
-use Rattle.st_tree.specs.Initial.{initial_of}
-use Rattle.st_tree.specs.declared.initial.Init.{Init}
-use Rattle.st_tree.specs.declared.type_spec.TypeSpec.{TypeSpec}
 use Rattle.plc_text.specs.Words.{same}
 use Rattle.st_types.specs.declared.st_type.StType.TheVariants as type
 use Rattle.st_tree.specs.declared.declaration.ClassDecl.{ClassDecl}
@@ -29,16 +26,16 @@ use Rattle.st_rules.specs.Classes.{classes_in, base_of, chain, lookup, own_metho
 use Rattle.st_rules.specs.Classes as rules
 use Rattle.st_rules.specs.ClassRules.{class_faults}
 use Rattle.st_rules.specs.Interfaces.{interfaces_in, interface_lookup}
-use Rattle.st_rules.specs.Scope.{Scope, method_routine, prototype_routine}
+use Rattle.st_rules.specs.Scope.{method_routine, prototype_routine}
 use Rattle.st_rules.specs.Signatures.{differ, same_signature, signature_of, prototype_signature}
 use Rattle.st_rules.proofs.Booleans.{none≢some, some-same, or-first, or-second}
 use Rattle.st_rules.proofs.ClassLaws.{bases_within, chain_law}
-use Rattle.st_unit_rules.specs.declared_names.Declarations.{functions_in, entries_in}
+use Rattle.st_unit_rules.specs.declared_names.Declarations.{functions_in}
 use Rattle.st_unit_rules.specs.declared_names.UnitNames.{unit_names, unit_scope, method_scope, function_scope, prototype_scope, routine_declared, method_declared, prototype_declared}
 use Rattle.st_unit_rules.specs.Checked.{Each, TypedClass, TypedFunction, IsChecked}
 use Rattle.st_unit_rules.specs.DeclarationRules.{signatures, signature_in}
 use Rattle.st_unit_rules.specs.UnitRefusal.{BreaksNothing}
-use Rattle.st_unit_rules.specs.Worth.{Worth, same_worth, worth_of}
+use Rattle.st_unit_rules.specs.Worth.{Worth, same_worth}
 use Rattle.st_values.specs.Program as seen
 use Rattle.st_values.specs.Program.{Parameter, Routine, conforms}
 use Rattle.st_values.specs.View as view
@@ -57,7 +54,7 @@ use Rattle.place_laws.specs.Agrees.{FillsBy, TakesBy, Gives, ToldOutcome, Runs}
 use Rattle.scope_laws.specs.Agreement.{MeetsInterfaces}
 use Rattle.name_laws.proofs.Found.{same_is, is_same, MethodShown, own_found, LookedUp, looked_up, PrototypeShown, PrototypeFound, prototype_found}
 use Rattle.name_laws.proofs.Routines.{declared_takes, routine_takes, few_parameters, told_result, routine_gives}
-use Rattle.scope_laws.proofs.Texts.{method_text, function_text, prototype_text, SameParameter, AlikeRoutines, alike_itself, alike_through, texts_alike, method_there, prototype_there, method_signature, interface_signature}
+use Rattle.scope_laws.proofs.Texts.{method_text, function_text, prototype_text, SameParameter, AlikeRoutines, alike_itself, alike_through, texts_alike, value_in, method_there, prototype_there, method_signature, interface_signature}
 
 -- ---- one routine for another
 
@@ -94,6 +91,14 @@ module _ (p : seen.Program) where
 parameters_signed : (o : Option seen.Interface) (name : List ℕ) → interface_parameters o name ≡ signed (signatures_at o) name
 parameters_signed None name = refl
 parameters_signed (Some i) name = refl
+
+-- signatures that do not differ
+pub not_differ : (a b : Signature Worth) → differ same_worth (Some a) (Some b) ≡ false → same_signature same_worth a b ≡ true
+not_differ a b h = by (same_signature same_worth a b) h
+  where
+    by : (x : Bool) → not x ≡ false → x ≡ true
+    by true e = refl
+    by false e = cc
 
 -- ---- in a unit
 
@@ -194,16 +199,6 @@ module _ (most : ℕ) (decls : List (Decl ℕ)) (p : Checked) (checked : IsCheck
         alike = alike_through a.first b.first b.second (subst (AlikeRoutines a.first) r a.alike) b.alike;
       }
 
-  abbrev value_in : Scope → TypeSpec ℕ → Option (Init ℕ) → Option Worth
-  value_in s t i = worth_of (unit_scope decls (unit_names decls)) (entries_in decls) s t (option_map initial_of i)
-
-  not_differ : (a b : Signature Worth) → differ same_worth (Some a) (Some b) ≡ false → same_signature same_worth a b ≡ true
-  not_differ a b h = by (same_signature same_worth a b) h
-    where
-      by : (x : Bool) → not x ≡ false → x ≡ true
-      by true e = refl
-      by false e = cc
-
   -- methods of equal signature
   methods_alike : (i j : MethodId) (x : MethodShown decls p checked i) (z : MethodShown decls p checked j) → differ same_worth (signature_of (signatures decls) i) (signature_of (signatures decls) j) ≡ false → AlikeAt i j
   unfolding method_scope
@@ -215,10 +210,10 @@ module _ (most : ℕ) (decls : List (Decl ℕ)) (p : Checked) (checked : IsCheck
       let d : differ same_worth (Some a) (Some b) ≡ false =
       ap (λ o. differ same_worth o (Some b)) (sym (method_signature decls i x.class x.method x.class_there x.there)) ∙ (ap (λ o. differ same_worth (signature_of (signatures decls) i) o) (sym (method_signature decls j z.class z.method z.class_there z.there)) ∙ h) in
       let e = not_differ a b d in
-      let texts = texts_alike s t (value_in s) (value_in t) x.method.name.text z.method.name.text x.method.result z.method.result x.method.sections z.method.sections
+      let texts = texts_alike s t (value_in decls s) (value_in decls t) x.method.name.text z.method.name.text x.method.result z.method.result x.method.sections z.method.sections
       (method_text most decls well good all i.class i.method x.class x.method x.class_there x.there) (method_text most decls well good all j.class j.method z.class z.method z.class_there z.there) e in
       let same_ones : (method_of i.class x.shown).parameters ≡ (method_of j.class z.shown).parameters =
-      parameters_same same_worth (type_written s) (type_written t) (value_in s) (value_in t) s t x.shown.name.text z.shown.name.text x.method.result z.method.result x.shown.result z.shown.result x.method.sections z.method.sections x.shown.sections z.shown.sections
+      parameters_same same_worth (type_written s) (type_written t) (value_in decls s) (value_in decls t) s t x.shown.name.text z.shown.name.text x.method.result z.method.result x.shown.result z.shown.result x.method.sections z.method.sections x.shown.sections z.shown.sections
       x.typed.result z.typed.result x.typed.sections z.typed.sections e in
       let at = at_shown j z in
       record {
@@ -378,12 +373,12 @@ module _ (most : ℕ) (decls : List (Decl ℕ)) (p : Checked) (checked : IsCheck
         let d : differ same_worth (Some a) (Some b) ≡ false =
         ap (λ o. differ same_worth o (Some b)) (sym (method_signature decls k x.class x.method x.class_there x.there)) ∙ (ap (λ o. differ same_worth (signature_of (signatures decls) k) o) (sym (interface_signature decls id z.interface z.prototype z.interface_there z.there)) ∙ h) in
         let e = not_differ a b d in
-        let texts = texts_alike s t (value_in s) (value_in t) x.method.name.text z.prototype.name.text x.method.result z.prototype.result x.method.sections z.prototype.sections
+        let texts = texts_alike s t (value_in decls s) (value_in decls t) x.method.name.text z.prototype.name.text x.method.result z.prototype.result x.method.sections z.prototype.sections
         (method_text most decls well good all k.class k.method x.class x.method x.class_there x.there) (prototype_text most decls well good all id.interface id.method z.interface z.prototype z.interface_there z.there) e in
         record {
           routines = record { parameters = texts.parameters; outcome = texts.outcome };
           parameters =
-              parameters_same same_worth (type_written s) (type_written t) (value_in s) (value_in t) s t x.shown.name.text z.shown.name.text x.method.result z.prototype.result x.shown.result z.shown.result x.method.sections z.prototype.sections x.shown.sections z.shown.sections
+              parameters_same same_worth (type_written s) (type_written t) (value_in decls s) (value_in decls t) s t x.shown.name.text z.shown.name.text x.method.result z.prototype.result x.shown.result z.shown.result x.method.sections z.prototype.sections x.shown.sections z.shown.sections
               x.typed.result z.typed.result x.typed.sections z.typed.sections e;
         }
 

@@ -21,6 +21,7 @@ use Rattle.st_tree.specs.declared.name.Name.{Name}
 use Rattle.st_tree.specs.declared.statement.Stmt.{Stmt}
 use Rattle.st_tree.specs.declared.type_spec.TypeSpec.{TypeSpec}
 use Rattle.st_tree.specs.declared.unit.Decl.{Decl}
+use Rattle.st_tree.specs.Initial.{initial_of}
 use Rattle.st_tree.specs.Statement.{statements_of}
 use Rattle.st_rules.specs.declared.ids.MethodId.{MethodId}
 use Rattle.st_rules.specs.declared.ids.PrototypeId.{PrototypeId}
@@ -42,7 +43,7 @@ use Rattle.st_rules.specs.Statements.{body_faults}
 use Rattle.st_rules.specs.Types.{same_type}
 use Rattle.st_rules.proofs.Booleans.{false≢true, both}
 use Rattle.st_rules.proofs.TypeLaws.{type_decided}
-use Rattle.st_unit_rules.specs.declared_names.Declarations.{functions_in}
+use Rattle.st_unit_rules.specs.declared_names.Declarations.{functions_in, entries_in}
 use Rattle.st_unit_rules.specs.declared_names.UnitNames.{unit_names, unit_scope, outer_scope, method_scope, function_scope, prototype_scope, result_written, method_declared, prototype_declared, class_declared, interface_declared, names_from}
 use Rattle.st_unit_rules.specs.declared_names.Variables.{Written, item_written, section_written, sections_written, is_parameter_written, declares_constants, result_declared, result_count, locals_declared, routine_locals}
 use Rattle.st_unit_rules.specs.declared_names.WrittenTypes.{type_written}
@@ -53,7 +54,7 @@ use Rattle.st_unit_rules.specs.UnitRefusal.{BreaksNothing}
 use Rattle.st_unit_rules.specs.VariableRules.{of_routine, of_prototype, sections_faults, result_faults}
 use Rattle.st_unit_rules.specs.Cycles.{inner_cycles}
 use Rattle.st_unit_rules.specs.Limits.{too_many_parameters}
-use Rattle.st_unit_rules.specs.Worth.{Worth, same_worth}
+use Rattle.st_unit_rules.specs.Worth.{Worth, same_worth, worth_of}
 use Rattle.st_meaning.specs.st_frame.Promise.Calls.{most_parameters}
 use Rattle.resolution_order.specs.told_laws.ToldLaws.{Every}
 use Rattle.resolution_order.proofs.told_laws.LocalTelling.{local_laws}
@@ -250,7 +251,7 @@ module _ {V : Type 0} (s : Scope) (value : TypeSpec ℕ → Option (Init ℕ) �
       (each_append IsSigned (filter is_parameter_written (section_written x)) (filter is_parameter_written (sections_written ss)) (section_parameters (type_written s) value x) (flat_map (section_parameters (type_written s) value) ss) (section_signed x) (sections_signed ss))
 
   -- a declared variable, and the parameter of the signature
-  abbrev IsShared : DeclaredVariable → Signed V → Type 0
+  abbrev pub IsShared : DeclaredVariable → Signed V → Type 0
   IsShared d q = (d.kind ≡ q.kind) × (d.sort ≡ q.sort) × (d.constant ≡ false)
 
   abbrev IsPassed : DeclaredVariable → Written → Type 0
@@ -278,7 +279,7 @@ module _ {V : Type 0} (s : Scope) (value : TypeSpec ℕ → Option (Init ℕ) �
   none_of_result own (Some t) = refl
 
   -- the parameters of a text
-  text_shared : (own : List ℕ) (result : Option (TypeSpec ℕ)) (ss : List (Section ℕ)) → IsText s own result ss → Each IsShared (filter calls.is_parameter s.locals) (flat_map (section_parameters (type_written s) value) ss)
+  pub text_shared : (own : List ℕ) (result : Option (TypeSpec ℕ)) (ss : List (Section ℕ)) → IsText s own result ss → Each IsShared (filter calls.is_parameter s.locals) (flat_map (section_parameters (type_written s) value) ss)
   unfolding routine_locals
   text_shared own result ss t =
       let ws = sections_written ss in
@@ -381,7 +382,11 @@ module _ (decls : List (Decl ℕ)) where
       ∙ (ap (option_and_then (λ (ms : List DeclaredRoutine). slice_get ms id.method)) (slice_get-map (interface_declared decls (unit_names decls)) (interfaces_in decls) id.interface ∙ ap (option_map (interface_declared decls (unit_names decls))) e)
       ∙ (slice_get-map (prototype_declared decls (unit_names decls)) d.methods id.method ∙ ap (option_map (prototype_declared decls (unit_names decls))) f))
 
-  abbrev method_sign : ℕ → Method ℕ → Signature Worth
+  -- what an initial value is worth
+  abbrev pub value_in : Scope → TypeSpec ℕ → Option (Init ℕ) → Option Worth
+  value_in s t i = worth_of (unit_scope decls (unit_names decls)) (entries_in decls) s t (option_map initial_of i)
+
+  abbrev pub method_sign : ℕ → Method ℕ → Signature Worth
   method_sign c m = signature_in decls (method_scope decls (unit_names decls) c m) m.result m.sections
 
   abbrev prototype_sign : Prototype ℕ → Signature Worth

@@ -21,7 +21,7 @@ use Rattle.st_unit_rules.specs.Checked.{IsChecked}
 use Rattle.st_unit_rules.specs.RefusalLaws.{IsGood}
 use Rattle.st_unit_rules.specs.UnitRefusal.{UnitRefusal}
 use Rattle.st_check_decl.specs.unit_check.Checking.{OnRefused}
-use Rattle.source_check.specs.Source.{IsRefusal}
+use Rattle.accepted_texts.specs.st_accepted.Judge.{IsRefusal}
 
 module _ (prelude text : List ℕ) where
   abbrev Its : Refusal → Type 0

@@ -13,10 +13,10 @@ use Rattle.st_prelude.specs.Blocks.{standard_blocks}
 use Rattle.console_command.specs.Checker.{IsKept}
 use Rattle.accepted_texts.specs.st_accepted.Accepted.{Accepted}
 use Rattle.accepted_texts.proofs.st_accepted.AcceptedLaws.{accepted_laws}
-use Rattle.source_check.specs.Source.{IsRefusal}
+use Rattle.accepted_texts.specs.st_accepted.Judge.{IsRefusal}
 use Rattle.accepted_texts.proofs.unfolding_laws.UnfoldingLaws.{unfolding_laws}
 use Rattle.accepted_texts.proofs.sized_units.Whole.{sized_unit_laws}
-use Rattle.source_check.specs.Judge.{IsAcceptedAs}
+use Rattle.accepted_texts.specs.st_accepted.Judge.{IsAcceptedAs}
 
 -- ---- refusals with the same parts
 

@@ -13,7 +13,7 @@ pub struct Language;
 
 impl Judge for Language {
     ghost use Rattle.st_prelude.specs.Blocks.{standard_blocks};
-    ghost use Rattle.source_check.specs.Judge.{Accepts, Refuses};
+    ghost use Rattle.accepted_texts.specs.st_accepted.Judge.{Accepts, Refuses};
     ghost use Rattle.source_check.specs.JudgeLaws.{judges as judges_law};
 
     ghost accepts = { Accepts };
@@ -25,7 +25,7 @@ impl Judge for Language {
 
 impl Checker for Language {
     ghost use Rattle.st_prelude.specs.Blocks.{standard_blocks};
-    ghost use Rattle.source_check.specs.Judge.{Holds};
+    ghost use Rattle.accepted_texts.specs.st_accepted.Judge.{Holds};
     ghost use Rattle.source_check.specs.JudgeLaws.{one_checked, seen as seen_law, kept as kept_law};
 
     ghost holds = { Holds };

@@ -6,7 +6,7 @@ ghost use Rattle.st_lexer.specs.Token.{token_view};
 ghost use Rattle.st_prelude.specs.Blocks.{standard_blocks};
 ghost use Rattle.accepted_texts.specs.st_accepted.Accepted.{Accepted, IsUnit, most_bytes};
 ghost use Rattle.st_check_decl.specs.unit_check.Checking.{OnRefused};
-ghost use Rattle.source_check.specs.Source.{IsRefusal};
+ghost use Rattle.accepted_texts.specs.st_accepted.Judge.{IsRefusal};
 
 use plc_text::Denied;
 use st_check_decl::check;
