@@ -195,6 +195,25 @@ module _ {W : Type 0} (m : Meaning W) (frames : Frames m) where
         → IsTable m v plays sources claims claim_of ready wish' draft' draft_of fresh quiet' away_of unused
     less v claims wish draft quiet wish' draft' quiet' a b c k = record { right = k.right; plays-are = k.plays-are; sources-are = k.sources-are; total = k.total; claims-are = k.claims-are; wish-is = λ w i. k.wish-is w (a w i); draft-is = λ d i. k.draft-is d (b d i); quiet-is = λ q i. k.quiet-is q (c q i) }
 
+    -- what was handed out is given up, one or two at a time
+    pub no_quiet : (v : Past W) (claims : List (Option C)) (wish : Option Wish) (draft : Option D) (quiet : Option Q) → IsTable m v plays sources claims claim_of ready wish draft draft_of fresh quiet away_of unused
+        → IsTable m v plays sources claims claim_of ready wish draft draft_of fresh None away_of unused
+    no_quiet v claims wish draft quiet k = less v claims wish draft quiet wish draft None (λ w i. i) (λ d i. i) (λ q i. absurd (None_Some q i)) k
+
+    pub no_draft : (v : Past W) (claims : List (Option C)) (wish : Option Wish) (draft : Option D) (quiet : Option Q) → IsTable m v plays sources claims claim_of ready wish draft draft_of fresh quiet away_of unused
+        → IsTable m v plays sources claims claim_of ready wish None draft_of fresh quiet away_of unused
+    no_draft v claims wish draft quiet k = less v claims wish draft quiet wish None quiet (λ w i. i) (λ d i. absurd (None_Some d i)) (λ q i. i) k
+
+    pub no_wish : (v : Past W) (claims : List (Option C)) (wish : Option Wish) (draft : Option D) (quiet : Option Q) → IsTable m v plays sources claims claim_of ready wish draft draft_of fresh quiet away_of unused
+        → IsTable m v plays sources claims claim_of ready None draft draft_of fresh quiet away_of unused
+    no_wish v claims wish draft quiet k = less v claims wish draft quiet None draft quiet (λ w i. absurd (None_Some w i)) (λ d i. i) (λ q i. i) k
+
+    -- the wish came back
+    pub wish_kept : (v v' : Past W) (claims : List (Option C)) (wish : Option Wish) (draft : Option D) (quiet : Option Q) (w : Wish)
+        → v' ≡ v → Some w ≡ wish → IsTable m v plays sources claims claim_of ready wish draft draft_of fresh quiet away_of unused
+        → IsTable m v' plays sources claims claim_of ready (Some w) draft draft_of fresh quiet away_of unused
+    wish_kept v v' claims wish draft quiet w e i k = same v v' claims (Some w) draft quiet e (less v claims wish draft quiet (Some w) draft quiet (λ w' j. sym i ∙ j) (λ d j. j) (λ q j. j) k)
+
     -- a new table
     pub began_empty : (v : Past W) (n : ℕ)
         → m.right v.first → plays ≡ v.script.plays → sources ≡ v.script.sources → n ≡ length plays + 1

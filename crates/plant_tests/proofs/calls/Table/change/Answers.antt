@@ -1,6 +1,21 @@
 use Rattle.std.proofs.Common.{refl, sym}
-use Rattle.plant_tests.proofs.CallLaws.{quiet_began, rewished, restored}
+use Rattle.plant_tests.proofs.CallLaws.{quiet_began, rewished, restored, no_draft, no_wish}
 use Rattle.plant_tests.proofs.calls.Table.change.Goals as goal
+
+pub invariant_of-self-in_default : goal.invariant_of-self-in_default
+invariant_of-self-in_default g c = rw c.take.ensures.after (no_draft g.P.Controlled.meaning g.met.P.Controlled.frames _ _ _ _ _ c.self.invariant)
+
+pub invariant_of-self-in_default-take : goal.invariant_of-self-in_default-take
+invariant_of-self-in_default-take g c = rw (c.take-2.ensures.after, c.take.ensures.after) (no_wish g.P.Controlled.meaning g.met.P.Controlled.frames _ _ _ _ _ (no_draft g.P.Controlled.meaning g.met.P.Controlled.frames _ _ _ _ _ c.self.invariant))
+
+pub invariant_of-self-then-wish-draft : goal.invariant_of-self-then-wish-draft
+invariant_of-self-then-wish-draft g c = rw c.take.ensures.after (rewished g.P.Controlled.meaning g.met.P.Controlled.frames _ _ _ _ _ _ _ refl c.in-Some-take.ensures.value c.self.invariant)
+
+pub begin_change-requires-clause-wish : goal.begin_change-requires-clause-wish
+begin_change-requires-clause-wish g c = c.self.invariant.wish-is c.in-Some-take.wish (sym c.in-Some-take.ensures.value)
+
+pub begin_change-requires-clause-base : goal.begin_change-requires-clause-base
+begin_change-requires-clause-base g c = (c.self.invariant.draft-is c.in-Some.draft (sym c.in-Some.ensures.value)).0.same
 
 pub invariant_of-self-in-Ok : goal.invariant_of-self-in-Ok
 invariant_of-self-in-Ok g c =

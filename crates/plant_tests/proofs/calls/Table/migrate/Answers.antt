@@ -2,8 +2,28 @@ use Rattle.std.proofs.Common.{◌∙◌, ap, sym}
 use Rattle.plant_rules.specs.Meaning.{Contents}
 use Rattle.plant_rules.specs.History.{state_of, under_way}
 use Rattle.plant_core.specs.Answers.{play_of}
-use Rattle.plant_tests.proofs.CallLaws.{changed_now, resumed_now, comes_of, next_number}
+use Rattle.plant_tests.proofs.CallLaws.{changed_now, resumed_now, comes_of, next_number, no_quiet}
 use Rattle.plant_tests.proofs.calls.Table.migrate.Goals as goal
+
+pub invariant_of-self-in_default : goal.invariant_of-self-in_default
+invariant_of-self-in_default g c = rw c.take.ensures.after (no_quiet g.P.Controlled.meaning g.met.P.Controlled.frames _ _ _ _ _ c.self.invariant)
+
+pub migrate-requires-clause-base : goal.migrate-requires-clause-base
+migrate-requires-clause-base g c = (c.self.invariant.quiet-is c.in-Some.quiet (sym c.in-Some.ensures.value)).0.base-is
+
+pub migrate-requires-clause-fresh : goal.migrate-requires-clause-fresh
+migrate-requires-clause-fresh g c = (c.self.invariant.quiet-is c.in-Some.quiet (sym c.in-Some.ensures.value)).1
+
+pub migrate-requires-clause-whole : goal.migrate-requires-clause-whole
+migrate-requires-clause-whole g c = (c.self.invariant.quiet-is c.in-Some.quiet (sym c.in-Some.ensures.value)).0.whole
+
+pub finish_change-requires-clause-under : goal.finish_change-requires-clause-under
+finish_change-requires-clause-under g c =
+    let had = c.self.invariant.quiet-is c.in-Some.quiet (sym c.in-Some.ensures.value) in
+    had.0.under ∙ ap (λ (z : Contents). under_way (play_of (state_of g.P.Controlled.meaning c.self.inside.core).turn) 0 z) (sym c.in-Ok.ensures.from)
+
+pub finish_change-requires-clause-supplied : goal.finish_change-requires-clause-supplied
+finish_change-requires-clause-supplied g c = c.in-Ok.ensures.supplied
 
 pub finish_change-requires-clause-next : goal.finish_change-requires-clause-next
 finish_change-requires-clause-next g c =
