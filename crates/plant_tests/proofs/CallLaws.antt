@@ -196,10 +196,6 @@ module _ {W : Type 0} (m : Meaning W) (frames : Frames m) where
     less v claims wish draft quiet wish' draft' quiet' a b c k = record { right = k.right; plays-are = k.plays-are; sources-are = k.sources-are; total = k.total; claims-are = k.claims-are; wish-is = λ w i. k.wish-is w (a w i); draft-is = λ d i. k.draft-is d (b d i); quiet-is = λ q i. k.quiet-is q (c q i) }
 
     -- what was handed out is given up, one or two at a time
-    pub no_quiet : (v : Past W) (claims : List (Option C)) (wish : Option Wish) (draft : Option D) (quiet : Option Q) → IsTable m v plays sources claims claim_of ready wish draft draft_of fresh quiet away_of unused
-        → IsTable m v plays sources claims claim_of ready wish draft draft_of fresh None away_of unused
-    no_quiet v claims wish draft quiet k = less v claims wish draft quiet wish draft None (λ w i. i) (λ d i. i) (λ q i. absurd (None_Some q i)) k
-
     pub no_draft : (v : Past W) (claims : List (Option C)) (wish : Option Wish) (draft : Option D) (quiet : Option Q) → IsTable m v plays sources claims claim_of ready wish draft draft_of fresh quiet away_of unused
         → IsTable m v plays sources claims claim_of ready wish None draft_of fresh quiet away_of unused
     no_draft v claims wish draft quiet k = less v claims wish draft quiet wish None quiet (λ w i. i) (λ d i. absurd (None_Some d i)) (λ q i. i) k

@@ -2,9 +2,6 @@ use Rattle.std.proofs.Common.{refl, sym}
 use Rattle.plant_tests.proofs.CallLaws.{quiet_began, rewished, restored, no_draft, no_wish}
 use Rattle.plant_tests.proofs.calls.Table.change.Goals as goal
 
-pub invariant_of-self-in_default : goal.invariant_of-self-in_default
-invariant_of-self-in_default g c = rw c.take.ensures.after (no_draft g.P.Controlled.meaning g.met.P.Controlled.frames _ _ _ _ _ c.self.invariant)
-
 pub invariant_of-self-in_default-take : goal.invariant_of-self-in_default-take
 invariant_of-self-in_default-take g c = rw (c.take-2.ensures.after, c.take.ensures.after) (no_wish g.P.Controlled.meaning g.met.P.Controlled.frames _ _ _ _ _ (no_draft g.P.Controlled.meaning g.met.P.Controlled.frames _ _ _ _ _ c.self.invariant))
 

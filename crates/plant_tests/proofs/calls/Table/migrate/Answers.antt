@@ -2,11 +2,8 @@ use Rattle.std.proofs.Common.{◌∙◌, ap, sym}
 use Rattle.plant_rules.specs.Meaning.{Contents}
 use Rattle.plant_rules.specs.History.{state_of, under_way}
 use Rattle.plant_core.specs.Answers.{play_of}
-use Rattle.plant_tests.proofs.CallLaws.{changed_now, resumed_now, comes_of, next_number, no_quiet}
+use Rattle.plant_tests.proofs.CallLaws.{changed_now, resumed_now, comes_of, next_number}
 use Rattle.plant_tests.proofs.calls.Table.migrate.Goals as goal
-
-pub invariant_of-self-in_default : goal.invariant_of-self-in_default
-invariant_of-self-in_default g c = rw c.take.ensures.after (no_quiet g.P.Controlled.meaning g.met.P.Controlled.frames _ _ _ _ _ c.self.invariant)
 
 pub migrate-requires-clause-base : goal.migrate-requires-clause-base
 migrate-requires-clause-base g c = (c.self.invariant.quiet-is c.in-Some.quiet (sym c.in-Some.ensures.value)).0.base-is

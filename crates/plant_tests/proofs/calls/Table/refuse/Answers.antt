@@ -1,9 +1,6 @@
 use Rattle.std.proofs.Common.{refl, sym}
-use Rattle.plant_tests.proofs.CallLaws.{denied_now, denies_in, no_wish, wish_kept}
+use Rattle.plant_tests.proofs.CallLaws.{denied_now, denies_in, wish_kept}
 use Rattle.plant_tests.proofs.calls.Table.refuse.Goals as goal
-
-pub invariant_of-self-in_default : goal.invariant_of-self-in_default
-invariant_of-self-in_default g c = rw c.take.ensures.after (no_wish g.P.Controlled.meaning g.met.P.Controlled.frames _ _ _ _ _ c.self.invariant)
 
 pub invariant_of-self-then-wish-play : goal.invariant_of-self-then-wish-play
 invariant_of-self-then-wish-play g c = wish_kept g.P.Controlled.meaning g.met.P.Controlled.frames _ _ _ _ _ _ _ refl c.in-Some.ensures.value c.self.invariant
