@@ -17,10 +17,18 @@ use plc_text::Code;
 use st_rules::Signatures;
 
 /// The signatures of all methods of classes and interfaces, by their numbers, with a number for what each initial value is worth.
-#[derive(Drop)]
 pub struct NumberedSignatures {
     pub worths: WorthNumbers,
     pub signatures: Signatures<u32>,
+}
+
+// By hand, so that a drop is one call: a derived one is written out wherever a `?` may need it.
+impl Drop for NumberedSignatures {
+    fn drop(self) {
+        let NumberedSignatures { worths, signatures } = self;
+        drop(worths);
+        drop(signatures);
+    }
 }
 
 impl NumberedSignatures {

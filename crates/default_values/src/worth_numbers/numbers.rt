@@ -12,9 +12,16 @@ use std::alloc::Global;
 use std::marker::Model;
 
 /// Worths, each with its number. Contracts see it as the list of its nodes, which holds none twice.
-#[derive(Drop)]
 pub struct WorthNumbers {
     nodes: IndexSet<Node>,
+}
+
+// By hand, so that a drop is one call: a derived one is written out wherever a `?` may need it.
+impl Drop for WorthNumbers {
+    fn drop(self) {
+        let WorthNumbers { nodes } = self;
+        drop(nodes);
+    }
 }
 
 impl Model for WorthNumbers {
