@@ -14,7 +14,7 @@ use crate::graph::graph;
 use crate::held::{Counts, node_of};
 use graph_reach::{Row, find_reached};
 use plc_text::{Items, NoMemory, narrowed};
-use program_tables::members_of;
+use program_tables::{Members, members_of};
 use st_tree::{Program, RegionDecl, SeenProgram};
 use std::alloc::Global;
 use std::marker::Model;
@@ -78,6 +78,18 @@ fn counts(classes: usize, structures: usize) -> Result<Counts, NoMemory>
     }
 }
 
+/// To which classes each node of the graph leads.
+fn reached_by(alloc: Global, counts: Counts, members: &Members<'_>) -> Result<Vec<Row>, NoMemory>
+    requires room { counts.classes + counts.structures ≤ 4294967295 }
+    requires classes { counts.classes ≡ length members.now.classes }
+    requires structures { counts.structures ≡ length members.now.structures }
+    ensures { IfOk result (λ rows. AreReached (words.lists_of counts members.now) counts.classes rows.items) }
+{
+    let lists = graph(alloc, counts, members)?;
+    let rows = find_reached(alloc, &lists, members.classes.len())?;
+    Ok(rows)
+}
+
 /// The node of what each region is.
 fn region_nodes(
     alloc: Global,
@@ -120,8 +132,8 @@ impl RegionInstances {
     {
         let members = members_of(alloc, program)?;
         let counts = counts(members.classes.len(), members.structures.len())?;
-        let lists = graph(alloc, counts, &members)?;
-        let rows = find_reached(alloc, &lists, members.classes.len())?;
+        let rows = reached_by(alloc, counts, &members)?;
+        drop(members);
         let nodes = region_nodes(alloc, counts, program.regions.as_slice())?;
         Ok(RegionInstances {
             of: SeenProgram::of(program),
