@@ -43,7 +43,7 @@ use Rattle.initial_laws.proofs.Places.{sorts_from}
 
 -- ---- each before those behind it
 
-abbrev Pairs : {X : Type 0} → (X → X → Type 0) → List X → Type 0
+abbrev pub Pairs : {X : Type 0} → (X → X → Type 0) → List X → Type 0
 Pairs R [] = Unit {0}
 Pairs R (x ∷ xs) = Every (R x) xs × Pairs R xs
 
@@ -51,7 +51,7 @@ pairs_append : {X : Type 0} (R : X → X → Type 0) (xs ys : List X) → Pairs 
 pairs_append R [] ys a b c = b
 pairs_append R (x ∷ xs) ys a b c = (every_append (R x) xs ys a.0 c.0, pairs_append R xs ys a.1 b c.1)
 
-pairs_back : {X : Type 0} (R : X → X → Type 0) (xs ys : List X) → Pairs R (xs ++ ys) → Pairs R ys
+pub pairs_back : {X : Type 0} (R : X → X → Type 0) (xs ys : List X) → Pairs R (xs ++ ys) → Pairs R ys
 pairs_back R [] ys h = h
 pairs_back R (x ∷ xs) ys h = pairs_back R xs ys h.1
 
@@ -61,10 +61,10 @@ pairs_map R f (x ∷ xs) h = (every_mapped (R (f x)) f xs h.0, pairs_map R f xs 
 
 -- ---- the names before a declaration
 
-abbrev text_of : Declaration → List ℕ
+abbrev pub text_of : Declaration → List ℕ
 text_of d = (name_of d).text
 
-abbrev put : Decl ℕ → List (List ℕ)
+abbrev pub put : Decl ℕ → List (List ℕ)
 put d = map (λ (n : Name). n.text) (names_put d)
 
 -- the names that there are go on being there
@@ -164,14 +164,14 @@ none_same n [] m h k = absurd k
 none_same n (x ∷ ns) m h (inl e) = ap (same n) e ∙ (neither (same n x) (list_any (same n) ns) h).0
 none_same n (x ∷ ns) m h (inr k) = none_same n ns m (neither (same n x) (list_any (same n) ns) h).1 k
 
-abbrev Differs : Declaration → Declaration → Type 0
+abbrev pub Differs : Declaration → Declaration → Type 0
 Differs d e = same (text_of d) (text_of e) ≡ false
 
 module _ (decls : List (Decl ℕ)) (good : BreaksNothing decls) where
-  abbrev NotBefore : Placed → Type 0
+  abbrev pub NotBefore : Placed → Type 0
   NotBefore x = is_named (text_of x.declaration) x.before ≡ false
 
-  not_before : (i : ℕ) (x : Placed) → slice_get (placed decls) i ≡ Some x → NotBefore x
+  pub not_before : (i : ℕ) (x : Placed) → slice_get (placed decls) i ≡ Some x → NotBefore x
   unfolding declaration_faults
   not_before i x e =
       let all = sym (ap (faults_of decls i) e) ∙ good.good i in
@@ -188,7 +188,7 @@ module _ (decls : List (Decl ℕ)) (good : BreaksNothing decls) where
     pairs_differ xs f.1 n.1,
   )
 
-  all_differ : Pairs Differs (declarations decls)
+  pub all_differ : Pairs Differs (declarations decls)
   unfolding placed
   all_differ =
       subst (Pairs Differs) (all_placed decls)
@@ -232,7 +232,7 @@ names_differ (declaration.Interface d ∷ ds) h = let r = names_differ ds h.1 in
 names_differ (declaration.Function d ∷ ds) h = let r = names_differ ds h.1 in record { classes = r.classes; programs = r.programs; between = r.between }
 names_differ (declaration.Configuration c ∷ ds) h = let r = names_differ ds (pairs_back Differs (flat_map globals_of_section (configuration_globals c)) (flat_map declarations_of ds) h.1) in record { classes = r.classes; programs = r.programs; between = r.between }
 
-unique_append : (as' bs : List (List ℕ)) → Unique as' → Unique bs → Every (λ a. Differ a bs) as' → Unique (as' ++ bs)
+pub unique_append : (as' bs : List (List ℕ)) → Unique as' → Unique bs → Every (λ a. Differ a bs) as' → Unique (as' ++ bs)
 unique_append [] bs u v w = v
 unique_append (a ∷ as') bs u v w = (every_append (λ m. same a m ≡ false) as' bs u.0 w.0, unique_append as' bs u.1 v w.1)
 

@@ -48,11 +48,11 @@ none_named n [] h = tt
 none_named n (b ∷ before) h = let q = neither (same n b) (list_any (same n) before) h in (not_turned n b q.0, none_named n before q.1)
 
 -- with those before them
-record AllDiffer (before : List (List ℕ)) (ns : List Name) : Type 0 where
-  unique : Unique (texts ns)
-  others : Every (λ b. Differ b (texts ns)) before
+pub record AllDiffer (before : List (List ℕ)) (ns : List Name) : Type 0 where
+  pub unique : Unique (texts ns)
+  pub others : Every (λ b. Differ b (texts ns)) before
 
-twice_differ : (before : List (List ℕ)) (ns : List Name) → declared_twice before ns ≡ [] → AllDiffer before ns
+pub twice_differ : (before : List (List ℕ)) (ns : List Name) → declared_twice before ns ≡ [] → AllDiffer before ns
 twice_differ before [] h = record { unique = tt; others = all before }
   where
     all : (bs : List (List ℕ)) → Every (λ b. Differ b []) bs
@@ -100,10 +100,10 @@ unique_back [] bs u = u
 unique_back (a ∷ as') bs u = unique_back as' bs u.1
 
 -- those of the sections among all members
-abbrev written_texts : List Written → List (List ℕ)
+abbrev pub written_texts : List Written → List (List ℕ)
 written_texts ws = map (λ (w : Written). w.name.text) ws
 
-section_texts : (ws : List Written) → texts (map (λ (w : Written). w.name) ws) ≡ written_texts ws
+pub section_texts : (ws : List Written) → texts (map (λ (w : Written). w.name) ws) ≡ written_texts ws
 section_texts [] = refl
 section_texts (w ∷ ws) = ap (λ ns. w.name.text ∷ ns) (section_texts ws)
 
