@@ -1,0 +1,10 @@
+pub mod Differing
+pub mod Structures
+pub mod ClassNames
+pub mod RegionNames
+pub mod TypeNames
+pub mod Apart
+pub mod Unmarked
+pub mod Layouts
+pub mod Stores
+pub mod Whole

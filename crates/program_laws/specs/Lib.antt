@@ -1,0 +1,5 @@
+pub mod Accepted
+pub mod Cycles
+pub mod Stores
+pub mod Paths
+pub mod Layouts
