@@ -6,5 +6,6 @@ pub mod TypeNames
 pub mod Apart
 pub mod Unmarked
 pub mod Layouts
+pub mod Locals
 pub mod Stores
 pub mod Whole

@@ -1,5 +1,5 @@
 -- What holds of accepted programs, put together.
-use Rattle.std.proofs.Common.{◌≡◌, ℕ, List, map, Some, subst}
+use Rattle.std.proofs.Common.{◌≡◌, ℕ, List, map, Some, subst, arith}
 use Rattle.std.specs.Prelude.{slice_get}
 use Rattle.st_tree.specs.Reads.{no_marks}
 use Rattle.st_values.specs.Program.{Variable, TypeEntry, Program}
@@ -12,15 +12,20 @@ use Rattle.st_change.proofs.Paths.{path_laws}
 use Rattle.st_change.proofs.Same.{same_laws}
 use Rattle.st_change.proofs.Stores.{hooks_good, start_good, change_good}
 use Rattle.resolution_order.specs.told_laws.ToldLaws.{Every}
+use Rattle.accepted_texts.specs.st_accepted.Accepted.{most_bytes}
+use Rattle.accepted_texts.proofs.formed_texts.Texts.{formed_text_laws}
+use Rattle.accepted_texts.proofs.sized_units.Told.{few_values, parts_are_told}
 use Rattle.accepted_texts.proofs.sized_units.Whole.{sized_unit_laws}
 use Rattle.initial_laws.proofs.Names.{Unique}
+use Rattle.promise_laws.proofs.Whole.{promise_laws}
 use Rattle.program_laws.specs.Accepted.{IsAccepted}
 use Rattle.program_laws.specs.Cycles.{AcceptedCycles}
-use Rattle.program_laws.specs.Layouts.{AcceptedLayouts}
+use Rattle.program_laws.specs.Layouts.{CalledHaveShapes, AcceptedLayouts}
 use Rattle.program_laws.specs.Paths.{AcceptedPaths}
 use Rattle.program_laws.specs.Stores.{AcceptedStores}
 use Rattle.program_laws.proofs.Apart.{NamesOnce, names_once, names_differ, paired}
 use Rattle.program_laws.proofs.Layouts.{regions_unfold, part_shaped}
+use Rattle.program_laws.proofs.Locals.{functions_shaped, methods_shaped, bodies_shaped}
 use Rattle.program_laws.proofs.Stores.{kept, play_sound, run_sound}
 use Rattle.program_laws.proofs.TypeNames.{types_unique, fields_unmarked}
 use Rattle.program_laws.proofs.Unmarked.{Known, unmarked}
@@ -81,10 +86,32 @@ accepted_paths = record {
   stays = λ p s a m g. same_laws.stays p s (unmarked p (known p a) m) (good_laws.initial p (kept p a).program) g;
 }
 
+-- ---- layouts
+
+called : (p : Program) → IsAccepted p → CalledHaveShapes p
+called p a =
+    let x = a.accepted in
+    let decls = x.accepted.whole.decls in
+    let good = x.accepted.good.nothing in
+    let checked = x.accepted.checked in
+    let fine = formed_text_laws.standard a.text x.accepted.whole x.accepted.is_unit in
+    let parts = parts_are_told decls (formed_text_laws.told most_bytes decls fine good) in
+    let few = few_values most_bytes decls (omega arith) fine in
+    let right = (promise_laws.held a.text x.program x.accepted).program in
+    let sizes = sized_unit_laws.accepted_locals a.text x.program x.accepted in
+    let here : CalledHaveShapes (program_of x.program) =
+    record {
+      functions = functions_shaped decls x.program checked good parts few right sizes;
+      methods = methods_shaped decls x.program checked good parts few right sizes;
+      bodies = bodies_shaped decls x.program checked good parts few right sizes;
+    } in
+    subst CalledHaveShapes x.seen here
+
 pub accepted_layouts : AcceptedLayouts
 accepted_layouts = record {
   shapes = λ p a. (kept p a).sized.shapes;
   starts = λ p a. (kept p a).starts;
   unfolds = λ p a. regions_unfold p (kept p a).sized.shapes;
+  called = called;
   parts = λ p q t sh a e f. part_shaped p q t sh (kept p a).sized.shapes e f;
 }
