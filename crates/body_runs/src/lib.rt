@@ -1,0 +1,2 @@
+//! The code of statements does what they mean.
+#![tactic(auto)]

@@ -1,0 +1,2 @@
+pub mod CallForm
+pub mod LongerRuns

@@ -1,0 +1,5 @@
+pub mod Narrow
+pub mod Likes
+pub mod Copies
+pub mod KeptAddresses
+pub mod Worded

@@ -1,0 +1,4 @@
+pub mod Masks
+pub mod Writes
+pub mod Entry
+pub mod Starts

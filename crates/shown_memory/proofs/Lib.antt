@@ -1,0 +1,4 @@
+pub mod Levels
+pub mod Parts
+pub mod Locals
+pub mod Geometry

@@ -1,0 +1,2 @@
+//! The tables of compiled code are those that its code asks.
+#![tactic(auto)]

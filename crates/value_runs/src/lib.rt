@@ -1,0 +1,2 @@
+//! The code of expressions and places does what they mean.
+#![tactic(auto)]
