@@ -8,7 +8,7 @@ use Rattle.st_tree.specs.declared.marks.Marks.{Marks}
 use Rattle.st_tree.specs.Reads.{no_marks}
 use Rattle.st_rules.proofs.Booleans.{none≢some, some-same}
 use Rattle.st_values.specs.Program.{Variable, TypeEntry, Class, Region, Program, class_at, class_number, chain_of, own_of, own_variables, class_variables}
-use Rattle.st_values.specs.Shape.{Shape, Elementary, Enumeration, Reference, Interface, Array, Structure, Instance, Fields, field_then, values_of, fields_of, fields_by, simple_shape, shape_by, shape_within, shape_of, region_shape, extent}
+use Rattle.st_values.specs.Shape.{Shape, Enumeration, Reference, Interface, Array, Structure, Instance, Fields, field_then, values_of, fields_of, fields_by, simple_shape, shape_by, shape_within, shape_of, region_shape, extent}
 use Rattle.st_values.specs.Value.{◌>>=◌}
 use Rattle.st_values.proofs.ShapeLaws.{mapped_some}
 use Rattle.st_values.proofs.ValueLaws.{then_some}
