@@ -1,0 +1,244 @@
+//! The questions, and their answers.
+
+ghost use Rattle.std.specs.Prelude.{◌≡◌, IfOk};
+ghost use Rattle.std.specs.Arc.{arc_value};
+ghost use Rattle.plant_core.specs.Hub.{HasShortInputs};
+ghost use Rattle.plant_rules.specs.Next.{IsKit, IsNextWhole};
+ghost use Rattle.plant_cell.specs.Plant.{AtRest};
+
+use crate::cycles::{are_in_order, do_four_lists, wait_for_another};
+use crate::plants::make_plant;
+use crate::turns::{take_turns, take_turns_on_four, take_turns_on_two};
+use cycle_journal::Play;
+use plant_cell::{Pass, Plant, SplitError};
+use plant_rules::{Controlled, Next};
+use plant_tests::Counters;
+use plc_text::{Items, NoMemory, Text, number, split_field};
+use scenario::{Scenario, read_scenario};
+use std::alloc::Global;
+use std::sync::{Arc, Wait};
+use std::thread::Threads;
+
+/// Adds a word and a number.
+fn put(told: &mut Text, word: &str, n: u64) -> Result<(), NoMemory> {
+    told.push_str(word)?;
+    told.push_str(" ")?;
+    told.push_decimal(n)
+}
+
+/// A scenario of so many cycles, in turn of two counters, of the gate, to which nothing is added, and of a task that is not there.
+fn cycles_text(alloc: Global, plays: u32) -> Result<Text, NoMemory> {
+    let mut text = Text::new(alloc);
+    text.push_str("@program\n@plays\n")?;
+    for n in 0..plays {
+        let line = match n % 4 {
+            0 => "cycle A 1 -\n",
+            1 => "cycle B 1 -\n",
+            2 => "cycle C 0 -\n",
+            _ => "cycle Missing 1 -\n",
+        };
+        text.push_str(line)?;
+    }
+    text.push_str("@end\n")?;
+    Ok(text)
+}
+
+/// Splits passes off until none is left to make, and adds what the last split is answered.
+fn tell_splits<P: Controlled>(
+    told: &mut Text,
+    plant: &Plant<P>,
+    pass: Pass<P>,
+) -> Result<(), NoMemory>
+    requires plant { pass.seat.table_id ≡ plant.now.table.shared.table_id }
+    requires rest { AtRest P.meaning plant.now.table.shared.key.0.value plant.now.passes pass.numbers.items pass.seat.me }
+{
+    let mut pass = pass;
+    for _ in 0..64 {
+        match plant.split_pass(&mut pass) {
+            Ok(_other) => {}
+            Err(SplitError::Full { made }) => return put(told, "full", made as u64),
+            Err(SplitError::NoMemory) => return Err(NoMemory),
+        }
+    }
+    told.push_str("not full")
+}
+
+/// Splits a pass off and joins it again, so many times, and adds how many numbers the pass has then.
+fn tell_rejoins<P: Controlled>(
+    told: &mut Text,
+    plant: &Plant<P>,
+    pass: Pass<P>,
+    times: u32,
+) -> Result<(), NoMemory>
+    requires plant { pass.seat.table_id ≡ plant.now.table.shared.table_id }
+    requires rest { AtRest P.meaning plant.now.table.shared.key.0.value plant.now.passes pass.numbers.items pass.seat.me }
+{
+    let mut pass = pass;
+    for _ in 0..times {
+        match plant.split_pass(&mut pass) {
+            Ok(other) => plant.join_pass(&mut pass, other),
+            Err(SplitError::Full { made }) => return put(told, "full", made as u64),
+            Err(SplitError::NoMemory) => return Err(NoMemory),
+        }
+    }
+    put(told, "numbers", pass.numbers.len() as u64)
+}
+
+/// A pass more, of a plant that has enough.
+fn one_more<P: Controlled>(plant: &Plant<P>, pass: &mut Pass<P>) -> Result<Pass<P>, NoMemory>
+    requires plant { pass.old.seat.table_id ≡ plant.now.table.shared.table_id }
+    requires rest { AtRest P.meaning plant.now.table.shared.key.0.value plant.now.passes pass.old.numbers.items pass.old.seat.me }
+    ensures plant { pass.new.seat.table_id ≡ plant.now.table.shared.table_id }
+    ensures rest { AtRest P.meaning plant.now.table.shared.key.0.value plant.now.passes pass.new.numbers.items pass.new.seat.me }
+    ensures other { IfOk result (λ r. (r.seat.table_id ≡ plant.now.table.shared.table_id) × AtRest P.meaning plant.now.table.shared.key.0.value plant.now.passes r.numbers.items r.seat.me) }
+{
+    match plant.split_pass(pass) {
+        Ok(other) => Ok(other),
+        Err(_) => Err(NoMemory),
+    }
+}
+
+/// Takes so many turns on each of so many threads.
+fn tell_turns<P: Controlled + Send + Sync, R: Threads + Wait + Sync>(
+    rt: &R,
+    told: &mut Text,
+    plant: &Plant<P>,
+    pass: Pass<P>,
+    threads: u32,
+    times: u32,
+) -> Result<(), NoMemory>
+where
+    P::Change: Send,
+    P::Work: Send,
+    requires plant { pass.seat.table_id ≡ plant.now.table.shared.table_id }
+    requires rest { AtRest P.meaning plant.now.table.shared.key.0.value plant.now.passes pass.numbers.items pass.seat.me }
+{
+    let mut pass = pass;
+    if threads == 1 {
+        let pass = take_turns(rt, plant, pass, times);
+        return put(told, "numbers", pass.numbers.len() as u64);
+    }
+    let two = one_more(plant, &mut pass)?;
+    if threads == 2 {
+        let (mut one, two) = take_turns_on_two(rt, plant, pass, two, times);
+        plant.join_pass(&mut one, two);
+        return put(told, "numbers", one.numbers.len() as u64);
+    }
+    let three = one_more(plant, &mut pass)?;
+    let four = one_more(plant, &mut pass)?;
+    let pass = take_turns_on_four(rt, plant, pass, two, three, four, times);
+    put(told, "numbers", pass.numbers.len() as u64)
+}
+
+/// Has one pass wait for the events of another.
+fn tell_seen<P: Controlled + Send + Sync, R: Threads + Wait + Sync>(
+    rt: &R,
+    told: &mut Text,
+    plant: &Plant<P>,
+    pass: Pass<P>,
+    plays: &[Play],
+) -> Result<(), NoMemory>
+where
+    P::Change: Send,
+    P::Work: Send,
+    requires plant { pass.seat.table_id ≡ plant.now.table.shared.table_id }
+    requires rest { AtRest P.meaning plant.now.table.shared.key.0.value plant.now.passes pass.numbers.items pass.seat.me }
+    requires plays { plays.now ≡ plant.now.table.shared.key.0.value.script.plays }
+{
+    let mut pass = pass;
+    let other = one_more(plant, &mut pass)?;
+    if plays.is_empty() {
+        return told.push_str("no plays");
+    }
+    let events = wait_for_another(rt, plant, pass, other, plays);
+    put(told, "events", events as u64)
+}
+
+/// Has four threads do the plays, and adds how many events and entries there are then, and whether these stand in the order of their lists.
+fn tell_cycles<P: Controlled + Send + Sync, R: Threads + Wait + Sync>(
+    rt: &R,
+    told: &mut Text,
+    plant: Plant<P>,
+    pass: Pass<P>,
+    plays: &[Play],
+) -> Result<(), NoMemory>
+where
+    P::Change: Send,
+    P::Work: Send,
+    requires plant { pass.seat.table_id ≡ plant.table.shared.table_id }
+    requires rest { AtRest P.meaning plant.table.shared.key.0.value plant.passes pass.numbers.items pass.seat.me }
+    requires plays { plays.now ≡ plant.table.shared.key.0.value.script.plays }
+{
+    let mut pass = pass;
+    let two = one_more(&plant, &mut pass)?;
+    let three = one_more(&plant, &mut pass)?;
+    let four = one_more(&plant, &mut pass)?;
+    let pass = do_four_lists(rt, &plant, pass, two, three, four, plays);
+    let core = plant.end(rt, pass);
+    put(told, "events", core.count() as u64)?;
+    put(told, ", entries", core.entries().len() as u64)?;
+    if are_in_order(core.entries(), plays.len()) {
+        told.push_str(" in order")
+    } else {
+        told.push_str(" out of order")
+    }
+}
+
+/// Adds the answer of a new plant of a script.
+fn tell_plant<P: Controlled + Send + Sync, R: Threads + Wait + Sync>(
+    rt: &R,
+    alloc: Global,
+    told: &mut Text,
+    first: Next<P>,
+    scenario: Scenario,
+    question: &str,
+    one: u32,
+    two: u32,
+) -> Result<(), NoMemory>
+where
+    P::Change: Send,
+    P::Work: Send,
+    requires inputs { HasShortInputs scenario.plays.value }
+    requires whole { IsNextWhole P.meaning (λ t k. IsKit P.meaning P.ready (arc_value first.loaded) t (arc_value k.shared) k.work k.carrier) (arc_value first.loaded) (arc_value first.for_change) first.regions first.kits.items }
+{
+    let passes = match question {
+        "split" | "rejoin" => one,
+        _ => 4,
+    };
+    if passes < 1 || passes > 64 {
+        return told.push_str("no plant");
+    }
+    let (plays, sources, phases) = scenario.into_shared();
+    let ours = plays.clone()?;
+    let (plant, pass) = make_plant(alloc, first, ours, sources, phases, passes)?;
+    match question {
+        "split" => tell_splits(told, &plant, pass),
+        "rejoin" => tell_rejoins(told, &plant, pass, two),
+        "turns" => tell_turns(rt, told, &plant, pass, one, two),
+        "seen" => tell_seen(rt, told, &plant, pass, plays.as_slice()),
+        _ => tell_cycles(rt, told, plant, pass, plays.as_slice()),
+    }
+}
+
+/// Adds the answer to a question.
+pub fn tell<R: Threads + Wait + Sync>(
+    rt: &R,
+    alloc: Global,
+    told: &mut Text,
+    line: &str,
+) -> Result<(), NoMemory> {
+    let (question, words) = split_field(line);
+    let (word, behind) = split_field(words);
+    let one = number(word).unwrap_or(0);
+    let two = number(behind).unwrap_or(0);
+    let plays = if question == "cycles" { one } else { 4 };
+    let text = cycles_text(alloc, plays)?;
+    if text.len() >= u32::MAX as usize {
+        return told.push_str("too long");
+    }
+    let first = Counters::first(alloc)?;
+    match read_scenario(alloc, text.as_bytes()) {
+        Ok(scenario) => tell_plant(rt, alloc, told, first, scenario, question, one, two),
+        Err(_) => told.push_str("no scenario"),
+    }
+}
