@@ -1,12 +1,13 @@
 use denote.Param.Send.{sendable}
+use denote.Param.SendFields.{as_row_send, declared_send, variants_send}
 use Rattle.std.proofs.Crossing.{crosses}
-use Rattle.atomic_table.proofs.shared.Seat.TheSendSync.Send.{send}
-use Rattle.atomic_table.proofs.shared.Shared.TheSendSync.Sync.{sync}
+use Rattle.atomic_table.proofs.shared.Seat.TheSendSync.{the_send}
+use Rattle.atomic_table.proofs.shared.Shared.TheSendSync.{the_sync}
 use Rattle.cell_tests.proofs.CoreCrossing.{Core-send}
 use Rattle.cell_tests.proofs.cycles.wait_for_another.Goals as goal
 
 pub join-events-requires-send-F : goal.join-events-requires-send-F
-join-events-requires-send-F g c κs within = search (Core-send, send, sync, sendable, crosses) depth 30
+join-events-requires-send-F g c κs within = search (Core-send, the_send, the_sync, declared_send, variants_send, as_row_send, sendable, crosses) depth 40 fits 20000
 
 pub join-events-requires-send-A : goal.join-events-requires-send-A
-join-events-requires-send-A g c κs within = search (Core-send, send, sync, sendable, crosses) depth 30
+join-events-requires-send-A g c κs within = search (Core-send, the_send, the_sync, declared_send, variants_send, as_row_send, sendable, crosses) depth 40 fits 20000
