@@ -166,15 +166,11 @@ where
     let pair = || -> (Pass<P>, Pass<P>)
         requires { (one.seat.table_id ≡ plant.now.table.shared.table_id) × (two.seat.table_id ≡ plant.now.table.shared.table_id) × AtRest P.meaning plant.now.table.shared.key.0.value plant.now.passes one.numbers.items one.seat.me × AtRest P.meaning plant.now.table.shared.key.0.value plant.now.passes two.numbers.items two.seat.me × (plays.now ≡ plant.now.table.shared.key.0.value.script.plays) }
         ensures { (result.0.seat.table_id ≡ plant.entry.now.table.shared.table_id) × (result.1.seat.table_id ≡ plant.entry.now.table.shared.table_id) × AtRest P.meaning plant.entry.now.table.shared.key.0.value plant.entry.now.passes result.0.numbers.items result.0.seat.me × AtRest P.meaning plant.entry.now.table.shared.key.0.value plant.entry.now.passes result.1.numbers.items result.1.seat.me }
-    {
-        do_two_lists(rt, plant, one, two, plays, 0)
-    };
+    { do_two_lists(rt, plant, one, two, plays, 0) };
     let other = || -> (Pass<P>, Pass<P>)
         requires { (three.seat.table_id ≡ plant.now.table.shared.table_id) × (four.seat.table_id ≡ plant.now.table.shared.table_id) × AtRest P.meaning plant.now.table.shared.key.0.value plant.now.passes three.numbers.items three.seat.me × AtRest P.meaning plant.now.table.shared.key.0.value plant.now.passes four.numbers.items four.seat.me × (plays.now ≡ plant.now.table.shared.key.0.value.script.plays) }
         ensures { (result.0.seat.table_id ≡ plant.entry.now.table.shared.table_id) × (result.1.seat.table_id ≡ plant.entry.now.table.shared.table_id) × AtRest P.meaning plant.entry.now.table.shared.key.0.value plant.entry.now.passes result.0.numbers.items result.0.seat.me × AtRest P.meaning plant.entry.now.table.shared.key.0.value plant.entry.now.passes result.1.numbers.items result.1.seat.me }
-    {
-        do_two_lists(rt, plant, three, four, plays, 2)
-    };
+    { do_two_lists(rt, plant, three, four, plays, 2) };
     let (front, back) = join(rt, pair, other);
     let (mut pass, two) = front;
     let (three, four) = back;

@@ -77,15 +77,11 @@ where
     let pair = || -> (Pass<P>, Pass<P>)
         requires { (one.seat.table_id ≡ plant.now.table.shared.table_id) × (two.seat.table_id ≡ plant.now.table.shared.table_id) × AtRest P.meaning plant.now.table.shared.key.0.value plant.now.passes one.numbers.items one.seat.me × AtRest P.meaning plant.now.table.shared.key.0.value plant.now.passes two.numbers.items two.seat.me }
         ensures { (result.0.seat.table_id ≡ plant.entry.now.table.shared.table_id) × (result.1.seat.table_id ≡ plant.entry.now.table.shared.table_id) × AtRest P.meaning plant.entry.now.table.shared.key.0.value plant.entry.now.passes result.0.numbers.items result.0.seat.me × AtRest P.meaning plant.entry.now.table.shared.key.0.value plant.entry.now.passes result.1.numbers.items result.1.seat.me }
-    {
-        take_turns_on_two(rt, plant, one, two, times)
-    };
+    { take_turns_on_two(rt, plant, one, two, times) };
     let other = || -> (Pass<P>, Pass<P>)
         requires { (three.seat.table_id ≡ plant.now.table.shared.table_id) × (four.seat.table_id ≡ plant.now.table.shared.table_id) × AtRest P.meaning plant.now.table.shared.key.0.value plant.now.passes three.numbers.items three.seat.me × AtRest P.meaning plant.now.table.shared.key.0.value plant.now.passes four.numbers.items four.seat.me }
         ensures { (result.0.seat.table_id ≡ plant.entry.now.table.shared.table_id) × (result.1.seat.table_id ≡ plant.entry.now.table.shared.table_id) × AtRest P.meaning plant.entry.now.table.shared.key.0.value plant.entry.now.passes result.0.numbers.items result.0.seat.me × AtRest P.meaning plant.entry.now.table.shared.key.0.value plant.entry.now.passes result.1.numbers.items result.1.seat.me }
-    {
-        take_turns_on_two(rt, plant, three, four, times)
-    };
+    { take_turns_on_two(rt, plant, three, four, times) };
     let (front, back) = join(rt, pair, other);
     let (mut pass, two) = front;
     let (three, four) = back;
