@@ -1,1 +1,1 @@
-pub mod CoreCrossing
+pub mod Crossing

@@ -6,17 +6,16 @@ ghost use Rattle.plant_core.specs.Hub.{HasShortInputs};
 ghost use Rattle.plant_rules.specs.Next.{IsKit, IsNextWhole};
 ghost use Rattle.plant_cell.specs.Plant.{AtRest};
 
-use crate::cycles::{are_in_order, do_four_lists, wait_for_another};
+use crate::jobs::{Job, LISTS, do_four};
 use crate::plants::make_plant;
-use crate::turns::{take_turns, take_turns_on_four, take_turns_on_two};
-use cycle_journal::Play;
+use cycle_journal::{Entry, Play};
 use plant_cell::{Pass, Plant, SplitError};
 use plant_rules::{Controlled, Next};
 use plant_tests::Counters;
-use plc_text::{Items, NoMemory, Text, number, split_field};
+use plc_text::{NoMemory, Text, number, split_field};
 use scenario::{Scenario, read_scenario};
 use std::alloc::Global;
-use std::sync::{Arc, Wait};
+use std::sync::Wait;
 use std::thread::Threads;
 
 /// Adds a word and a number.
@@ -43,32 +42,30 @@ fn cycles_text(alloc: Global, plays: u32) -> Result<Text, NoMemory> {
     Ok(text)
 }
 
-/// Splits passes off until none is left to make, and adds what the last split is answered.
+/// Whether the entries of each list are in the order of its plays, each once.
+fn are_in_order(entries: &[Entry]) -> bool {
+    for list in 0..LISTS {
+        let mut last = 0;
+        for entry in entries {
+            if entry.play % LISTS == list {
+                if entry.play <= last {
+                    return false;
+                }
+                last = entry.play;
+            }
+        }
+    }
+    true
+}
+
+/// Splits a pass off, so many times, and joins it again or ends it. Adds how many numbers the pass has then, or how many are made where
+/// none is left to make.
 fn tell_splits<P: Controlled>(
     told: &mut Text,
     plant: &Plant<P>,
     pass: Pass<P>,
-) -> Result<(), NoMemory>
-    requires plant { pass.seat.table_id ≡ plant.now.table.shared.table_id }
-    requires rest { AtRest P.meaning plant.now.table.shared.key.0.value plant.now.passes pass.numbers.items pass.seat.me }
-{
-    let mut pass = pass;
-    for _ in 0..64 {
-        match plant.split_pass(&mut pass) {
-            Ok(_other) => {}
-            Err(SplitError::Full { made }) => return put(told, "full", made as u64),
-            Err(SplitError::NoMemory) => return Err(NoMemory),
-        }
-    }
-    told.push_str("not full")
-}
-
-/// Splits a pass off and joins it again, so many times, and adds how many numbers the pass has then.
-fn tell_rejoins<P: Controlled>(
-    told: &mut Text,
-    plant: &Plant<P>,
-    pass: Pass<P>,
     times: u32,
+    is_joined: bool,
 ) -> Result<(), NoMemory>
     requires plant { pass.seat.table_id ≡ plant.now.table.shared.table_id }
     requires rest { AtRest P.meaning plant.now.table.shared.key.0.value plant.now.passes pass.numbers.items pass.seat.me }
@@ -76,7 +73,13 @@ fn tell_rejoins<P: Controlled>(
     let mut pass = pass;
     for _ in 0..times {
         match plant.split_pass(&mut pass) {
-            Ok(other) => plant.join_pass(&mut pass, other),
+            Ok(other) => {
+                if is_joined {
+                    plant.join_pass(&mut pass, other);
+                } else {
+                    drop(other);
+                }
+            }
             Err(SplitError::Full { made }) => return put(told, "full", made as u64),
             Err(SplitError::NoMemory) => return Err(NoMemory),
         }
@@ -98,69 +101,38 @@ fn one_more<P: Controlled>(plant: &Plant<P>, pass: &mut Pass<P>) -> Result<Pass<
     }
 }
 
-/// Takes so many turns on each of so many threads.
-fn tell_turns<P: Controlled + Send + Sync, R: Threads + Wait + Sync>(
+/// Has four threads do a job each.
+fn on_threads<P: Controlled + Send + Sync, R: Threads + Wait + Sync>(
     rt: &R,
-    told: &mut Text,
-    plant: &Plant<P>,
-    pass: Pass<P>,
-    threads: u32,
-    times: u32,
-) -> Result<(), NoMemory>
-where
-    P::Change: Send,
-    P::Work: Send,
-    requires plant { pass.seat.table_id ≡ plant.now.table.shared.table_id }
-    requires rest { AtRest P.meaning plant.now.table.shared.key.0.value plant.now.passes pass.numbers.items pass.seat.me }
-{
-    let mut pass = pass;
-    if threads == 1 {
-        let pass = take_turns(rt, plant, pass, times);
-        return put(told, "numbers", pass.numbers.len() as u64);
-    }
-    let two = one_more(plant, &mut pass)?;
-    if threads == 2 {
-        let (mut one, two) = take_turns_on_two(rt, plant, pass, two, times);
-        plant.join_pass(&mut one, two);
-        return put(told, "numbers", one.numbers.len() as u64);
-    }
-    let three = one_more(plant, &mut pass)?;
-    let four = one_more(plant, &mut pass)?;
-    let pass = take_turns_on_four(rt, plant, pass, two, three, four, times);
-    put(told, "numbers", pass.numbers.len() as u64)
-}
-
-/// Has one pass wait for the events of another.
-fn tell_seen<P: Controlled + Send + Sync, R: Threads + Wait + Sync>(
-    rt: &R,
-    told: &mut Text,
     plant: &Plant<P>,
     pass: Pass<P>,
     plays: &[Play],
-) -> Result<(), NoMemory>
+    jobs: (Job, Job, Job, Job),
+) -> Result<(Pass<P>, usize), NoMemory>
 where
     P::Change: Send,
     P::Work: Send,
     requires plant { pass.seat.table_id ≡ plant.now.table.shared.table_id }
     requires rest { AtRest P.meaning plant.now.table.shared.key.0.value plant.now.passes pass.numbers.items pass.seat.me }
     requires plays { plays.now ≡ plant.now.table.shared.key.0.value.script.plays }
+    ensures plant { IfOk result (λ r. r.0.seat.table_id ≡ plant.now.table.shared.table_id) }
+    ensures rest { IfOk result (λ r. AtRest P.meaning plant.now.table.shared.key.0.value plant.now.passes r.0.numbers.items r.0.seat.me) }
 {
     let mut pass = pass;
-    let other = one_more(plant, &mut pass)?;
-    if plays.is_empty() {
-        return told.push_str("no plays");
-    }
-    let events = wait_for_another(rt, plant, pass, other, plays);
-    put(told, "events", events as u64)
+    let two = one_more(plant, &mut pass)?;
+    let three = one_more(plant, &mut pass)?;
+    let four = one_more(plant, &mut pass)?;
+    Ok(do_four(rt, plant, pass, two, three, four, plays, jobs))
 }
 
-/// Has four threads do the plays, and adds how many events and entries there are then, and whether these stand in the order of their lists.
-fn tell_cycles<P: Controlled + Send + Sync, R: Threads + Wait + Sync>(
+/// Has four threads do a job each, ends the plant, and adds what is in it then.
+fn tell_jobs<P: Controlled + Send + Sync, R: Threads + Wait + Sync>(
     rt: &R,
     told: &mut Text,
     plant: Plant<P>,
     pass: Pass<P>,
     plays: &[Play],
+    jobs: (Job, Job, Job, Job),
 ) -> Result<(), NoMemory>
 where
     P::Change: Send,
@@ -169,18 +141,38 @@ where
     requires rest { AtRest P.meaning plant.table.shared.key.0.value plant.passes pass.numbers.items pass.seat.me }
     requires plays { plays.now ≡ plant.table.shared.key.0.value.script.plays }
 {
-    let mut pass = pass;
-    let two = one_more(&plant, &mut pass)?;
-    let three = one_more(&plant, &mut pass)?;
-    let four = one_more(&plant, &mut pass)?;
-    let pass = do_four_lists(rt, &plant, pass, two, three, four, plays);
+    let (pass, found) = on_threads(rt, &plant, pass, plays, jobs)?;
+    let numbers = pass.numbers.len();
     let core = plant.end(rt, pass);
-    put(told, "events", core.count() as u64)?;
+    put(told, "numbers", numbers as u64)?;
+    put(told, ", found", found as u64)?;
+    put(told, ", events", core.count() as u64)?;
     put(told, ", entries", core.entries().len() as u64)?;
-    if are_in_order(core.entries(), plays.len()) {
+    if are_in_order(core.entries()) {
         told.push_str(" in order")
     } else {
         told.push_str(" out of order")
+    }
+}
+
+/// What each thread does: turns, on one, two or four of them, to wait for an entry of another, or the cycles of a list.
+fn jobs_of(question: &str, threads: u32, times: u32) -> (Job, Job, Job, Job) {
+    let none = Job::Turns(0);
+    let turns = Job::Turns(times);
+    match question {
+        "turns" => (
+            turns,
+            if threads < 2 { none } else { turns },
+            if threads < 4 { none } else { turns },
+            if threads < 4 { none } else { turns },
+        ),
+        "seen" => (Job::Cycles(1), Job::Entry(1), none, none),
+        _ => (
+            Job::Cycles(1),
+            Job::Cycles(2),
+            Job::Cycles(3),
+            Job::Cycles(0),
+        ),
     }
 }
 
@@ -211,13 +203,11 @@ where
     let (plays, sources, phases) = scenario.into_shared();
     let ours = plays.clone()?;
     let (plant, pass) = make_plant(alloc, first, ours, sources, phases, passes)?;
-    match question {
-        "split" => tell_splits(told, &plant, pass),
-        "rejoin" => tell_rejoins(told, &plant, pass, two),
-        "turns" => tell_turns(rt, told, &plant, pass, one, two),
-        "seen" => tell_seen(rt, told, &plant, pass, plays.as_slice()),
-        _ => tell_cycles(rt, told, plant, pass, plays.as_slice()),
+    if question == "split" || question == "rejoin" {
+        return tell_splits(told, &plant, pass, two, question == "rejoin");
     }
+    let jobs = jobs_of(question, one, two);
+    tell_jobs(rt, told, plant, pass, plays.as_slice(), jobs)
 }
 
 /// Adds the answer to a question.

@@ -1,14 +1,13 @@
 //! What passes to a plant are answered, on one thread and on several. Each line of the input asks something of a plant of three counters, and
-//! is printed with the answer behind it; empty lines and those that begin with `#` are printed as they are. `split PASSES` splits passes off
-//! until none is left to make; `rejoin PASSES TIMES` splits one off and joins it again; `turns THREADS TIMES` has each thread take so many
-//! turns, 1, 2 or 4 of them; `seen` has one thread wait for the events of another; `cycles PLAYS` has four threads do the cycles of four
-//! lists.
+//! is printed with the answer behind it; empty lines and those that begin with `#` are printed as they are. `split PASSES TIMES` splits a
+//! pass off, so many times, of a plant that has so many; `rejoin PASSES TIMES` joins it again each time; `turns THREADS TIMES` has each of
+//! 1, 2 or 4 threads take so many turns; `seen` has one thread wait for the events of another; `cycles PLAYS` has four threads do the
+//! cycles of four lists.
 #![tactic(auto)]
 
 mod answers;
-mod cycles;
+mod jobs;
 mod plants;
-mod turns;
 
 use crate::answers::tell;
 use plc_text::{NoMemory, Text};

@@ -1,6 +1,6 @@
 use Rattle.std.proofs.Common.{◌≡◌}
 use Rattle.plant_cell.specs.Plant.{AtRest}
-use Rattle.cell_tests.proofs.cycles.do_cycle.Given as goal
+use Rattle.cell_tests.proofs.jobs.do_cycle.Given as goal
 
 abbrev pub invariant-loop : goal.invariant-loop
 invariant-loop g l =

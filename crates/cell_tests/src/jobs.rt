@@ -1,18 +1,29 @@
-//! Passes that do the cycles of their lists, on several threads.
+//! What passes do on threads of their own.
 
-ghost use Rattle.std.specs.Prelude.{◌≡◌, ◌≤◌, true, length};
+ghost use Rattle.std.specs.Prelude.{◌≡◌, ◌≤◌, true, length, IfOk};
 ghost use Rattle.cycle_journal.specs.Play.{play_numbered};
 ghost use Rattle.plant_rules.specs.History.{at_play, is_cycle};
 ghost use Rattle.plant_cell.specs.Plant.{AtRest};
 
-use cycle_journal::{Entry, Play};
+use cycle_journal::Play;
 use plant_cell::{Pass, Plant, Tried};
 use plant_rules::Controlled;
 use std::sync::Wait;
 use std::thread::{Threads, join, yield_now};
 
-/// How many lists there are, one for each thread.
+/// How many lists of plays there are, one for each thread.
 pub const LISTS: u32 = 4;
+
+/// What one thread does.
+#[derive(Clone, Copy, Drop)]
+pub enum Job {
+    /// So many turns, in which nothing happens.
+    Turns(u32),
+    /// The cycles of a list, which are its plays `list`, `list + LISTS` and so on.
+    Cycles(u32),
+    /// Turns until a play has its entry.
+    Entry(u32),
+}
 
 fn is_cycle_at(plays: &[Play], play: u32) -> bool
     ensures { result ≡ true → (play ≤ length plays.now) × (is_cycle (play_numbered plays.now play) ≡ true) }
@@ -88,8 +99,7 @@ fn do_of_list<P: Controlled, R: Wait>(
     do_cycle(rt, plant, pass, play);
 }
 
-/// Does the cycles among the plays of one list, which are `list`, `list + LISTS` and so on.
-pub fn do_list<P: Controlled, R: Wait>(
+fn do_list<P: Controlled, R: Wait>(
     rt: &R,
     plant: &Plant<P>,
     pass: Pass<P>,
@@ -112,76 +122,27 @@ pub fn do_list<P: Controlled, R: Wait>(
     pass
 }
 
-/// Two passes do a list each, on two threads.
-pub fn do_two_lists<P: Controlled + Send + Sync, R: Threads + Wait + Sync>(
+fn take_turns<P: Controlled, R: Wait>(
     rt: &R,
     plant: &Plant<P>,
-    one: Pass<P>,
-    two: Pass<P>,
-    plays: &[Play],
-    first: u32,
-) -> (Pass<P>, Pass<P>)
-where
-    P::Change: Send,
-    P::Work: Send,
-    requires few { first ≤ 2 }
-    requires plant { (one.seat.table_id ≡ plant.now.table.shared.table_id) × (two.seat.table_id ≡ plant.now.table.shared.table_id) }
-    requires one { AtRest P.meaning plant.now.table.shared.key.0.value plant.now.passes one.numbers.items one.seat.me }
-    requires two { AtRest P.meaning plant.now.table.shared.key.0.value plant.now.passes two.numbers.items two.seat.me }
-    requires plays { plays.now ≡ plant.now.table.shared.key.0.value.script.plays }
-    ensures plant { (result.0.seat.table_id ≡ plant.now.table.shared.table_id) × (result.1.seat.table_id ≡ plant.now.table.shared.table_id) }
-    ensures one { AtRest P.meaning plant.now.table.shared.key.0.value plant.now.passes result.0.numbers.items result.0.seat.me }
-    ensures two { AtRest P.meaning plant.now.table.shared.key.0.value plant.now.passes result.1.numbers.items result.1.seat.me }
-{
-    let second = first + 1;
-    join(
-        rt,
-        || do_list(rt, plant, one, plays, first),
-        || do_list(rt, plant, two, plays, second),
-    )
-}
-
-/// One pass of two pairs that do a list each, on four threads.
-pub fn do_four_lists<P: Controlled + Send + Sync, R: Threads + Wait + Sync>(
-    rt: &R,
-    plant: &Plant<P>,
-    one: Pass<P>,
-    two: Pass<P>,
-    three: Pass<P>,
-    four: Pass<P>,
-    plays: &[Play],
+    pass: Pass<P>,
+    times: u32,
 ) -> Pass<P>
-where
-    P::Change: Send,
-    P::Work: Send,
-    requires plant { (one.seat.table_id ≡ plant.now.table.shared.table_id) × (two.seat.table_id ≡ plant.now.table.shared.table_id) × (three.seat.table_id ≡ plant.now.table.shared.table_id) × (four.seat.table_id ≡ plant.now.table.shared.table_id) }
-    requires one { AtRest P.meaning plant.now.table.shared.key.0.value plant.now.passes one.numbers.items one.seat.me }
-    requires two { AtRest P.meaning plant.now.table.shared.key.0.value plant.now.passes two.numbers.items two.seat.me }
-    requires three { AtRest P.meaning plant.now.table.shared.key.0.value plant.now.passes three.numbers.items three.seat.me }
-    requires four { AtRest P.meaning plant.now.table.shared.key.0.value plant.now.passes four.numbers.items four.seat.me }
-    requires plays { plays.now ≡ plant.now.table.shared.key.0.value.script.plays }
+    requires plant { pass.seat.table_id ≡ plant.now.table.shared.table_id }
+    requires rest { AtRest P.meaning plant.now.table.shared.key.0.value plant.now.passes pass.numbers.items pass.seat.me }
     ensures plant { result.seat.table_id ≡ plant.now.table.shared.table_id }
     ensures rest { AtRest P.meaning plant.now.table.shared.key.0.value plant.now.passes result.numbers.items result.seat.me }
 {
-    let pair = || -> (Pass<P>, Pass<P>)
-        requires { (one.seat.table_id ≡ plant.now.table.shared.table_id) × (two.seat.table_id ≡ plant.now.table.shared.table_id) × AtRest P.meaning plant.now.table.shared.key.0.value plant.now.passes one.numbers.items one.seat.me × AtRest P.meaning plant.now.table.shared.key.0.value plant.now.passes two.numbers.items two.seat.me × (plays.now ≡ plant.now.table.shared.key.0.value.script.plays) }
-        ensures { (result.0.seat.table_id ≡ plant.entry.now.table.shared.table_id) × (result.1.seat.table_id ≡ plant.entry.now.table.shared.table_id) × AtRest P.meaning plant.entry.now.table.shared.key.0.value plant.entry.now.passes result.0.numbers.items result.0.seat.me × AtRest P.meaning plant.entry.now.table.shared.key.0.value plant.entry.now.passes result.1.numbers.items result.1.seat.me }
-    { do_two_lists(rt, plant, one, two, plays, 0) };
-    let other = || -> (Pass<P>, Pass<P>)
-        requires { (three.seat.table_id ≡ plant.now.table.shared.table_id) × (four.seat.table_id ≡ plant.now.table.shared.table_id) × AtRest P.meaning plant.now.table.shared.key.0.value plant.now.passes three.numbers.items three.seat.me × AtRest P.meaning plant.now.table.shared.key.0.value plant.now.passes four.numbers.items four.seat.me × (plays.now ≡ plant.now.table.shared.key.0.value.script.plays) }
-        ensures { (result.0.seat.table_id ≡ plant.entry.now.table.shared.table_id) × (result.1.seat.table_id ≡ plant.entry.now.table.shared.table_id) × AtRest P.meaning plant.entry.now.table.shared.key.0.value plant.entry.now.passes result.0.numbers.items result.0.seat.me × AtRest P.meaning plant.entry.now.table.shared.key.0.value plant.entry.now.passes result.1.numbers.items result.1.seat.me }
-    { do_two_lists(rt, plant, three, four, plays, 2) };
-    let (front, back) = join(rt, pair, other);
-    let (mut pass, two) = front;
-    let (three, four) = back;
-    plant.join_pass(&mut pass, two);
-    plant.join_pass(&mut pass, three);
-    plant.join_pass(&mut pass, four);
+    let mut pass = pass;
+    for _ in 0..times {
+        let turn = plant.enter(rt, &mut pass);
+        plant.leave(&mut pass, turn);
+    }
     pass
 }
 
-/// Waits until a play has its entry, and gives the number of events then.
-pub fn wait_for<P: Controlled, R: Wait>(
+// Waits until the play has its entry, and gives the number of events then.
+fn wait_for<P: Controlled, R: Wait>(
     rt: &R,
     plant: &Plant<P>,
     pass: Pass<P>,
@@ -207,46 +168,94 @@ pub fn wait_for<P: Controlled, R: Wait>(
     unreachable!()
 }
 
-/// On one thread a pass does the first list, on another one a pass waits for the first entry: how many events it finds then.
-pub fn wait_for_another<P: Controlled + Send + Sync, R: Threads + Wait + Sync>(
+// Does a job, and gives how many events were found by one that waits.
+fn do_job<P: Controlled, R: Wait>(
+    rt: &R,
+    plant: &Plant<P>,
+    pass: Pass<P>,
+    plays: &[Play],
+    job: Job,
+) -> (Pass<P>, usize)
+    requires plant { pass.seat.table_id ≡ plant.now.table.shared.table_id }
+    requires rest { AtRest P.meaning plant.now.table.shared.key.0.value plant.now.passes pass.numbers.items pass.seat.me }
+    requires plays { plays.now ≡ plant.now.table.shared.key.0.value.script.plays }
+    ensures plant { result.0.seat.table_id ≡ plant.now.table.shared.table_id }
+    ensures rest { AtRest P.meaning plant.now.table.shared.key.0.value plant.now.passes result.0.numbers.items result.0.seat.me }
+{
+    match job {
+        Job::Turns(times) => (take_turns(rt, plant, pass, times), 0),
+        Job::Cycles(list) => (do_list(rt, plant, pass, plays, list), 0),
+        Job::Entry(play) => {
+            if play as usize > plays.len() {
+                return (pass, 0);
+            }
+            wait_for(rt, plant, pass, play)
+        }
+    }
+}
+
+// Two passes do a job each, on two threads: one pass of them, and the events that the second found.
+fn do_two<P: Controlled + Send + Sync, R: Threads + Wait + Sync>(
     rt: &R,
     plant: &Plant<P>,
     one: Pass<P>,
     two: Pass<P>,
     plays: &[Play],
-) -> usize
+    first: Job,
+    second: Job,
+) -> (Pass<P>, usize)
 where
     P::Change: Send,
     P::Work: Send,
-    requires some { 1 ≤ length plays.now }
     requires plant { (one.seat.table_id ≡ plant.now.table.shared.table_id) × (two.seat.table_id ≡ plant.now.table.shared.table_id) }
     requires one { AtRest P.meaning plant.now.table.shared.key.0.value plant.now.passes one.numbers.items one.seat.me }
     requires two { AtRest P.meaning plant.now.table.shared.key.0.value plant.now.passes two.numbers.items two.seat.me }
     requires plays { plays.now ≡ plant.now.table.shared.key.0.value.script.plays }
+    ensures plant { result.0.seat.table_id ≡ plant.now.table.shared.table_id }
+    ensures rest { AtRest P.meaning plant.now.table.shared.key.0.value plant.now.passes result.0.numbers.items result.0.seat.me }
 {
-    let (_, (_, events)) = join(
+    let (ours, theirs) = join(
         rt,
-        || do_list(rt, plant, one, plays, 1),
-        || wait_for(rt, plant, two, 1),
+        || do_job(rt, plant, one, plays, first),
+        || do_job(rt, plant, two, plays, second),
     );
-    events
+    let (mut pass, _) = ours;
+    let (other, found) = theirs;
+    plant.join_pass(&mut pass, other);
+    (pass, found)
 }
 
-/// Whether so many plays have one entry each, those of each list in its order.
-pub fn are_in_order(entries: &[Entry], plays: usize) -> bool {
-    if entries.len() != plays {
-        return false;
-    }
-    for list in 0..LISTS {
-        let mut last = 0;
-        for entry in entries {
-            if entry.play % LISTS == list {
-                if entry.play <= last {
-                    return false;
-                }
-                last = entry.play;
-            }
-        }
-    }
-    true
+/// Four passes do a job each, on four threads: one pass of them, and the events that the second found.
+pub fn do_four<P: Controlled + Send + Sync, R: Threads + Wait + Sync>(
+    rt: &R,
+    plant: &Plant<P>,
+    one: Pass<P>,
+    two: Pass<P>,
+    three: Pass<P>,
+    four: Pass<P>,
+    plays: &[Play],
+    jobs: (Job, Job, Job, Job),
+) -> (Pass<P>, usize)
+where
+    P::Change: Send,
+    P::Work: Send,
+    requires plant { (one.seat.table_id ≡ plant.now.table.shared.table_id) × (two.seat.table_id ≡ plant.now.table.shared.table_id) × (three.seat.table_id ≡ plant.now.table.shared.table_id) × (four.seat.table_id ≡ plant.now.table.shared.table_id) }
+    requires one { AtRest P.meaning plant.now.table.shared.key.0.value plant.now.passes one.numbers.items one.seat.me }
+    requires two { AtRest P.meaning plant.now.table.shared.key.0.value plant.now.passes two.numbers.items two.seat.me }
+    requires three { AtRest P.meaning plant.now.table.shared.key.0.value plant.now.passes three.numbers.items three.seat.me }
+    requires four { AtRest P.meaning plant.now.table.shared.key.0.value plant.now.passes four.numbers.items four.seat.me }
+    requires plays { plays.now ≡ plant.now.table.shared.key.0.value.script.plays }
+    ensures plant { result.0.seat.table_id ≡ plant.now.table.shared.table_id }
+    ensures rest { AtRest P.meaning plant.now.table.shared.key.0.value plant.now.passes result.0.numbers.items result.0.seat.me }
+{
+    let (first, second, third, fourth) = jobs;
+    let (ours, theirs) = join(
+        rt,
+        || do_two(rt, plant, one, two, plays, first, second),
+        || do_two(rt, plant, three, four, plays, third, fourth),
+    );
+    let (mut pass, found) = ours;
+    let (other, _) = theirs;
+    plant.join_pass(&mut pass, other);
+    (pass, found)
 }

@@ -1,7 +1,7 @@
 use Rattle.std.proofs.Common.{ap}
 use Rattle.plant_cell.specs.Known.{first_of}
 use Rattle.plant_cell.proofs.CycleLaws.{has_run}
-use Rattle.cell_tests.proofs.cycles.attempt.Goals as goal
+use Rattle.cell_tests.proofs.jobs.attempt.Goals as goal
 
 pub run-ran-requires : goal.run-ran-requires
 run-ran-requires g c = let h = c.in-Claim.ensures.tried in record { task = h.0.run.below; work = h.1; fit = h.0.run.fits }

@@ -1,6 +1,6 @@
 use Rattle.std.proofs.Common.{◌≡◌}
 use Rattle.plant_cell.specs.Plant.{AtRest}
-use Rattle.cell_tests.proofs.cycles.wait_for.Given as goal
+use Rattle.cell_tests.proofs.jobs.wait_for.Given as goal
 
 abbrev pub invariant-loop : goal.invariant-loop
 invariant-loop g l =
