@@ -1,0 +1,6 @@
+use Rattle.std.proofs.Common.{◌≡◌}
+use Rattle.plant_cell.specs.Plant.{AtRest}
+use Rattle.cell_tests.proofs.jobs.do_list.Given as goal
+
+abbrev pub invariant-loop-play : goal.invariant-loop-play
+invariant-loop-play g l = (l.pass.seat.table_id ≡ l.plant.table.shared.table_id) × AtRest g.P.Controlled.meaning l.plant.table.shared.key.0.value l.plant.passes l.pass.numbers.items l.pass.seat.me
