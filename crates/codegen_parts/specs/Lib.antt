@@ -1,0 +1,3 @@
+pub mod CallPlans
+pub mod Cursors
+pub mod Steps
