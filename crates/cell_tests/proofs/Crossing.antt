@@ -33,72 +33,72 @@ use Rattle.cell_tests.specs.contracts.jobs.Job as Job
 
 ruleset parts = (declared_send, declared_sync, variants_send, variants_sync, as_row_send, as_row_sync, sendable, crosses)
 
-Regions-send : IsSend Regions.the_row
-Regions-send = search (sendable, crosses) depth 30
+regions_send : IsSend Regions.the_row
+regions_send = search (sendable, crosses) depth 30
 
-Entry-send : IsSend Entry.the_row
-Entry-send = search parts depth 40 fits 20000
+entry_send : IsSend Entry.the_row
+entry_send = search parts depth 40 fits 20000
 
-Play-send : IsSend Play.the_row
-Play-send = search parts depth 40 fits 20000
+play_send : IsSend Play.the_row
+play_send = search parts depth 40 fits 20000
 
-pub Play-sync : IsSync Play.the_row
-Play-sync = search parts depth 40 fits 20000
+pub play_sync : IsSync Play.the_row
+play_sync = search parts depth 40 fits 20000
 
-Text-send : IsSend Text.the_row
-Text-send = search parts depth 40 fits 20000
+text_send : IsSend Text.the_row
+text_send = search parts depth 40 fits 20000
 
-Text-sync : IsSync Text.the_row
-Text-sync = search parts depth 40 fits 20000
+text_sync : IsSync Text.the_row
+text_sync = search parts depth 40 fits 20000
 
 module _ (V : RattleType) where
-  Names-send : IsSend Text.the_row → IsSend V → IsSend (Names.the_row V)
-  Names-send t v = search parts depth 40 fits 20000
+  names_send : IsSend Text.the_row → IsSend V → IsSend (Names.the_row V)
+  names_send t v = search parts depth 40 fits 20000
 
-  Names-sync : IsSync Text.the_row → IsSync V → IsSync (Names.the_row V)
-  Names-sync t v = search parts depth 40 fits 20000
+  names_sync : IsSync Text.the_row → IsSync V → IsSync (Names.the_row V)
+  names_sync t v = search parts depth 40 fits 20000
 
-Progress-of : IsSend Play.the_row → IsSync Play.the_row → IsSend (Names.the_row Text.the_row) → IsSync (Names.the_row Text.the_row) → IsSend Progress.the_row
-Progress-of p q n m = view_send Progress.TheInside.the_row _ _ _ _ (search (Names-send, Text-send, declared_send, as_row_send, sendable, crosses) depth 40 fits 20000)
+progress_of : IsSend Play.the_row → IsSync Play.the_row → IsSend (Names.the_row Text.the_row) → IsSync (Names.the_row Text.the_row) → IsSend Progress.the_row
+progress_of p q n m = view_send Progress.TheInside.the_row _ _ _ _ (search (names_send, text_send, declared_send, as_row_send, sendable, crosses) depth 40 fits 20000)
 
-Progress-send : IsSend Progress.the_row
-Progress-send = Progress-of Play-send Play-sync (Names-send _ Text-send Text-send) (Names-sync _ Text-sync Text-sync)
+progress_send : IsSend Progress.the_row
+progress_send = progress_of play_send play_sync (names_send _ text_send text_send) (names_sync _ text_sync text_sync)
 
 module _ (P C W : RattleType) where
-  Kit-send : IsSend Regions.the_row → IsSend P → IsSync P → IsSend W → IsSend (Kit.the_row P W)
-  Kit-send r s y w = search parts depth 40 fits 20000
+  kit_send : IsSend Regions.the_row → IsSend P → IsSync P → IsSend W → IsSend (Kit.the_row P W)
+  kit_send r s y w = search parts depth 40 fits 20000
 
-  Stock-of : IsSend Regions.the_row → IsSend Entry.the_row → IsSend Progress.the_row → IsSend (Kit.the_row P W) → IsSend P → IsSync P → IsSend (Stock.the_row P W)
-  Stock-of r e o k s y = search (declared_send, variants_send, as_row_send, sendable, crosses) depth 40 fits 20000
+  stock_of : IsSend Regions.the_row → IsSend Entry.the_row → IsSend Progress.the_row → IsSend (Kit.the_row P W) → IsSend P → IsSync P → IsSend (Stock.the_row P W)
+  stock_of r e o k s y = search (declared_send, variants_send, as_row_send, sendable, crosses) depth 40 fits 20000
 
-  Core-of : (g : Ghosts P.Denot C.Denot W.Denot) → IsSend (Stock.the_row P W) → IsSend P → IsSync P → IsSend W → IsSend (Core.the_row P C W g)
-  Core-of g k s y w = view_send (Core.TheInside.the_row P C W g) _ _ _ _ (search (declared_send, variants_send, as_row_send, sendable, crosses) depth 40 fits 20000)
+  core_of : (g : Ghosts P.Denot C.Denot W.Denot) → IsSend (Stock.the_row P W) → IsSend P → IsSync P → IsSend W → IsSend (Core.the_row P C W g)
+  core_of g k s y w = view_send (Core.TheInside.the_row P C W g) _ _ _ _ (search (declared_send, variants_send, as_row_send, sendable, crosses) depth 40 fits 20000)
 
-  Core-send : (g : Ghosts P.Denot C.Denot W.Denot) → IsSend P → IsSync P → IsSend W → IsSend (Core.the_row P C W g)
-  Core-send g s y w = Core-of g (Stock-of Regions-send Entry-send Progress-send (Kit-send Regions-send s y w) s y) s y w
+  core_send : (g : Ghosts P.Denot C.Denot W.Denot) → IsSend P → IsSync P → IsSend W → IsSend (Core.the_row P C W g)
+  core_send g s y w = core_of g (stock_of regions_send entry_send progress_send (kit_send regions_send s y w) s y) s y w
 
 module _ (R : RattleType) where
-  Option-send : IsSend R → IsSend (OptionOf R)
-  Option-send r = search parts depth 12
+  option_send : IsSend R → IsSend (OptionOf R)
+  option_send r = search parts depth 12
 
 module _ (S V : RattleType) where
-  Pass-of : IsSend S → IsSend (PassOver.the_row S V)
-  Pass-of s = search (seat_send, declared_send, as_row_send, sendable, crosses) depth 40 fits 20000
+  pass_of : IsSend S → IsSend (PassOver.the_row S V)
+  pass_of s = search (seat_send, declared_send, as_row_send, sendable, crosses) depth 40 fits 20000
 
 module _ (S V K L : RattleType) (g : RuleGhosts L.Denot S.Denot V.Denot K.Denot) where
-  Plant-over : IsSend S → IsSync (PlantOver.the_row S V K L g)
-  Plant-over s = search (shared_sync, lease_sync, send, sync, parts) depth 40 fits 20000
+  plant_over : IsSend S → IsSync (PlantOver.the_row S V K L g)
+  plant_over s = search (shared_sync, lease_sync, send, sync, parts) depth 40 fits 20000
 
 module _ (P C W : RattleType) (g : Ghosts P.Denot C.Denot W.Denot) where
-  Slot-send : IsSend P → IsSync P → IsSend W → IsSend (OptionOf (Core.the_row P C W g))
-  Slot-send s y w = Option-send (Core.the_row P C W g) (Core-send P C W g s y w)
+  slot_send : IsSend P → IsSync P → IsSend W → IsSend (OptionOf (Core.the_row P C W g))
+  slot_send s y w = option_send (Core.the_row P C W g) (core_send P C W g s y w)
 
   pub pass_send : IsSend P → IsSync P → IsSend W → IsSend (PassOver.the_row (OptionOf (Core.the_row P C W g)) (View.the_row P C W g))
-  pass_send s y w = Pass-of _ _ (Slot-send s y w)
+  pass_send s y w = pass_of _ _ (slot_send s y w)
 
   pub plant_sync : IsSend P → IsSync P → IsSend W
       → IsSync (PlantOver.the_row (OptionOf (Core.the_row P C W g)) (View.the_row P C W g) (Tuple (SnapshotOf (Core.the_row P C W g) ∷ u32 ∷ [])) (Law.the_row P C W) (rule.ghosts P C W g rule.no_dict rule.no_dict rule.no_dict rule.no_dict))
-  plant_sync s y w = Plant-over (OptionOf (Core.the_row P C W g)) (View.the_row P C W g) (Tuple (SnapshotOf (Core.the_row P C W g) ∷ u32 ∷ [])) (Law.the_row P C W) (rule.ghosts P C W g rule.no_dict rule.no_dict rule.no_dict rule.no_dict) (Slot-send s y w)
+  plant_sync s y w = plant_over (OptionOf (Core.the_row P C W g)) (View.the_row P C W g) (Tuple (SnapshotOf (Core.the_row P C W g) ∷ u32 ∷ [])) (Law.the_row P C W) (rule.ghosts P C W g rule.no_dict rule.no_dict rule.no_dict rule.no_dict) (slot_send s y w)
 
 -- ---- what a closure holds, and what a thread gives back
 
