@@ -251,8 +251,14 @@ where
     let (first, second, third, fourth) = jobs;
     let (ours, theirs) = join(
         rt,
-        || do_two(rt, plant, one, two, plays, first, second),
-        || do_two(rt, plant, three, four, plays, third, fourth),
+        || -> (Pass<P>, usize)
+            requires { (one.seat.table_id ≡ plant.now.table.shared.table_id) × (two.seat.table_id ≡ plant.now.table.shared.table_id) × AtRest P.meaning plant.now.table.shared.key.0.value plant.now.passes one.numbers.items one.seat.me × AtRest P.meaning plant.now.table.shared.key.0.value plant.now.passes two.numbers.items two.seat.me × (plays.now ≡ plant.now.table.shared.key.0.value.script.plays) }
+            ensures { (result.0.seat.table_id ≡ plant.entry.now.table.shared.table_id) × AtRest P.meaning plant.entry.now.table.shared.key.0.value plant.entry.now.passes result.0.numbers.items result.0.seat.me }
+        { do_two(rt, plant, one, two, plays, first, second) },
+        || -> (Pass<P>, usize)
+            requires { (three.seat.table_id ≡ plant.now.table.shared.table_id) × (four.seat.table_id ≡ plant.now.table.shared.table_id) × AtRest P.meaning plant.now.table.shared.key.0.value plant.now.passes three.numbers.items three.seat.me × AtRest P.meaning plant.now.table.shared.key.0.value plant.now.passes four.numbers.items four.seat.me × (plays.now ≡ plant.now.table.shared.key.0.value.script.plays) }
+            ensures { (result.0.seat.table_id ≡ plant.entry.now.table.shared.table_id) × AtRest P.meaning plant.entry.now.table.shared.key.0.value plant.entry.now.passes result.0.numbers.items result.0.seat.me }
+        { do_two(rt, plant, three, four, plays, third, fourth) },
     );
     let (mut pass, found) = ours;
     let (other, _) = theirs;
