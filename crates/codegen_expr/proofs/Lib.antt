@@ -1,0 +1,4 @@
+pub mod WalkLaws
+pub mod CallLaws
+pub mod GivenLaws
+pub mod FirstLaws
