@@ -1,0 +1,4 @@
+pub mod BackLaws
+pub mod CountLaws
+pub mod EffectLaws
+pub mod LoopLaws
