@@ -66,7 +66,8 @@ pub fn numbers(words: &str) -> [u32; 4] {
     [small(first), small(second), small(third), small(fourth)]
 }
 
-fn elem(word: &str) -> Elem {
+/// The kind of that name, BOOL where there is none.
+pub fn elem(word: &str) -> Elem {
     for kind in &KINDS {
         if kind.name() == word {
             return *kind;
@@ -244,7 +245,7 @@ fn add(alloc: Global, made: &mut MachineCode, line: &str, asked: &str) -> Result
 }
 
 /// The code of a text, with the instructions that are asked for.
-pub fn code(alloc: Global, text: &str, asked: &str) -> Result<MachineCode, NoMemory> {
+pub fn machine_code(alloc: Global, text: &str, asked: &str) -> Result<MachineCode, NoMemory> {
     let mut made = MachineCode {
         routines: Items::new(alloc),
         slots: Items::new(alloc),

@@ -4,4 +4,5 @@
 mod code;
 mod runs;
 
+pub use code::{elem, machine_code, numbers, small};
 pub use runs::tell;

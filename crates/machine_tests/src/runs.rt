@@ -4,7 +4,7 @@
 ghost use Rattle.std.specs.Prelude.{◌≡◌};
 ghost use Rattle.cycle_machine.specs.Room.{IsRoomFor};
 
-use crate::code::{code, numbers, small};
+use crate::code::{machine_code, numbers, small};
 use cycle_machine::{Room, run_body, run_hook_body};
 use mem_image::{Image, Regions};
 use plc_text::{NoMemory, Text, split_field};
@@ -144,7 +144,7 @@ pub fn tell(
         "hook" => ". END",
         _ => words,
     };
-    let code = code(alloc, text, asked)?;
+    let code = machine_code(alloc, text, asked)?;
     match validate(alloc, code)? {
         Some(valid) => tell_of(alloc, told, &valid, question, words),
         None => told.push_str("no"),

@@ -12,6 +12,7 @@ use std::io;
 fn tell(alloc: Global, told: &mut Text, text: &str, line: &str) -> Result<(), NoMemory> {
     let (question, words) = split_field(line);
     match question {
+        "code" => code_tests::tell::<Language>(alloc, told, text, words),
         "core" => plant_tests::tell(alloc, told, text, words),
         "valid" | "list" | "run" | "hook" => {
             machine_tests::tell(alloc, told, text, question, words)
