@@ -14,10 +14,18 @@ use st_names::Names;
 use std::alloc::Global;
 
 /// The numbers of the program instances, a list for each task by its name.
-#[derive(Drop)]
 pub struct TaskRegions {
     tasks: Names<()>,
     numbers: Vec<Items<u32>>,
+}
+
+// By hand, so that a drop is one call: a derived one is written out wherever a `?` may need it.
+impl Drop for TaskRegions {
+    fn drop(self) {
+        let TaskRegions { tasks, numbers } = self;
+        drop(tasks);
+        drop(numbers);
+    }
 }
 
 /// Adds a number to the list at a place.

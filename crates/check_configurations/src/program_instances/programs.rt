@@ -18,11 +18,24 @@ use symbol_table::unit_tables::UnitTables;
 use type_resolution::told_locals::Declaring;
 
 /// The programs of a unit in the order of the text, with the first place of each name.
-#[derive(Drop)]
 pub struct UnitPrograms<'u> {
     names: Vec<&'u Name>,
     programs: Vec<InstancedProgram<'u>>,
     places: Names<u32>,
+}
+
+// By hand, so that a drop is one call: a derived one is written out wherever a `?` may need it.
+impl Drop for UnitPrograms<'_> {
+    fn drop(self) {
+        let UnitPrograms {
+            names,
+            programs,
+            places,
+        } = self;
+        drop(names);
+        drop(programs);
+        drop(places);
+    }
 }
 
 /// What each instance of a program takes.
