@@ -16,19 +16,53 @@ use st_types::StType;
 use std::alloc::Global;
 
 /// What is found out about the base of a class, which may have none.
-#[derive(Drop)]
 pub struct CheckedBase {
     /// E05 at the line of the name, where there is no such class.
     pub least: Option<(Code, u32)>,
     pub base: Option<Used<Note>>,
 }
 
+// By hand, so that a drop is one call: a derived one is written out wherever a `?` may need it.
+impl Drop for CheckedBase {
+    fn drop(self) {
+        drop(self.into_base());
+    }
+}
+
+impl CheckedBase {
+    /// The typed tree alone.
+    pub fn into_base(self) -> Option<Used<Note>>
+        ensures { result ≡ self.base }
+    {
+        let CheckedBase { least: _, base } = self;
+        base
+    }
+}
+
 /// What is found out about interfaces.
-#[derive(Drop)]
 pub struct CheckedInterfaces {
     /// E05 at the first line of a name that no interface has.
     pub least: Option<(Code, u32)>,
     pub interfaces: Items<Used<Note>>,
+}
+
+impl Drop for CheckedInterfaces {
+    fn drop(self) {
+        drop(self.into_interfaces());
+    }
+}
+
+impl CheckedInterfaces {
+    /// The typed trees alone.
+    pub fn into_interfaces(self) -> Items<Used<Note>>
+        ensures { result ≡ self.interfaces }
+    {
+        let CheckedInterfaces {
+            least: _,
+            interfaces,
+        } = self;
+        interfaces
+    }
 }
 
 /// What is found out about one name.
@@ -129,16 +163,11 @@ fn with_interface(
 ) -> Result<CheckedInterfaces, NoMemory>
     ensures { IfOk result (λ x. AddsInterface x so_far one) }
 {
-    let CheckedInterfaces {
-        least,
-        mut interfaces,
-    } = so_far;
-    let CheckedUsed { least: own, used } = one;
-    interfaces.push(used)?;
-    Ok(CheckedInterfaces {
-        least: earlier(least, own),
-        interfaces,
-    })
+    let mut so_far = so_far;
+    let CheckedUsed { least, used } = one;
+    so_far.least = earlier(so_far.least, least);
+    so_far.interfaces.push(used)?;
+    Ok(so_far)
 }
 
 /// Checks the names of interfaces behind IMPLEMENTS or EXTENDS.

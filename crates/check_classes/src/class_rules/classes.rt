@@ -12,7 +12,7 @@ ghost use Rattle.check_classes.specs.class_rules.Private.Classes.{BrokenBy, Tree
 
 use crate::base_rules::{check_base, check_interfaces};
 use crate::class_limit_rules::class_limit_fault;
-use crate::class_rules::parts::{Broken, CheckedClass, Trees, class_of, heading_of, home};
+use crate::class_rules::parts::{Broken, CheckedClass, Trees, heading_of, home};
 use crate::member_rules::check_members;
 use check_names::member_names::{MemberNames, member_name_fault};
 use check_names::name_spaces::word_twice;
@@ -51,11 +51,12 @@ fn broken_by(
     let list = s.chain(alloc, number)?;
     let chain = list.as_slice();
     let names = member_name_fault(alloc, side.names, chain, class)?;
+    let limits = class_limit_fault(alloc, s, tables, place, number, chain, class)?;
+    drop(list);
     let members = class.members.as_slice();
     let written = written_members(alloc, members)?;
     let declared = written.as_slice();
     let cycles = inner_cycles_fault(alloc, declared)?;
-    let limits = class_limit_fault(alloc, s, tables, place, number, chain, class)?;
     let (classes, interfaces) = (tables.class_tables(), tables.interface_tables());
     let modifiers = class.modifiers.as_slice();
     let words = word_twice(class.line, modifiers);
@@ -115,8 +116,8 @@ pub fn check_class(
     ensures { IfOk result (λ c. ChecksClass c tables.now.decls place number class.now) }
 {
     let s = tables.scope(alloc, Some(number), false, &[])?;
-    let heading = heading_of(alloc, class)?;
     let broken = broken_by(alloc, tables, side, &s, place, number, class)?;
+    let heading = heading_of(alloc, class)?;
     let found = trees_of(alloc, tables, &s, number, class)?;
-    Ok(class_of(heading, &broken, found))
+    Ok(heading.class_of(&broken, found))
 }

@@ -25,12 +25,25 @@ pub struct CheckedClass {
 }
 
 /// What stands before the base of a class.
-#[derive(Drop)]
 pub struct Heading {
     line: u32,
     sort: ClassSort,
     modifiers: Items<Modifier>,
     name: Name,
+}
+
+// By hand, so that a drop is one call: a derived one is written out wherever a `?` may need it.
+impl Drop for Heading {
+    fn drop(self) {
+        let Heading {
+            line: _,
+            sort: _,
+            modifiers,
+            name,
+        } = self;
+        drop(modifiers);
+        drop(name);
+    }
 }
 
 /// What a class breaks besides its base, its interfaces, its members and its body.
@@ -94,45 +107,37 @@ fn earliest(broken: &Broken, found: &Trees) -> Option<(Code, u32)>
     earlier(members, found.body.least)
 }
 
-/// A class with this heading and these trees, which breaks this besides.
-pub fn class_of(heading: Heading, broken: &Broken, found: Trees) -> CheckedClass
-    ensures { IsClass result heading broken.now found }
-{
-    let least = earliest(broken, &found);
-    let Heading {
-        line,
-        sort,
-        modifiers,
-        name,
-    } = heading;
-    let Trees {
-        base,
-        interfaces,
-        members,
-        body,
-    } = found;
-    let CheckedBase { least: _, base } = base;
-    let CheckedInterfaces {
-        least: _,
-        interfaces,
-    } = interfaces;
-    let CheckedMembers {
-        sections: _,
-        methods: _,
-        members,
-    } = members;
-    let FoundBody { least: _, body } = body;
-    CheckedClass {
-        least,
-        class: ClassDecl {
+impl Heading {
+    /// A class with this heading and these trees, which breaks this besides.
+    pub fn class_of(self, broken: &Broken, found: Trees) -> CheckedClass
+        ensures { IsClass result self broken.now found }
+    {
+        let least = earliest(broken, &found);
+        let Heading {
             line,
             sort,
             modifiers,
             name,
+        } = self;
+        let Trees {
             base,
             interfaces,
             members,
             body,
-        },
+        } = found;
+        let FoundBody { least: _, body } = body;
+        CheckedClass {
+            least,
+            class: ClassDecl {
+                line,
+                sort,
+                modifiers,
+                name,
+                base: base.into_base(),
+                interfaces: interfaces.into_interfaces(),
+                members: members.into_members(),
+                body,
+            },
+        }
     }
 }

@@ -54,22 +54,14 @@ fn interface_of(
 ) -> CheckedInterface
     ensures { IsInterface result line name broken.now bases methods }
 {
-    let CheckedInterfaces {
-        least: of_bases,
-        interfaces: bases,
-    } = bases;
-    let CheckedPrototypes {
-        least: of_methods,
-        prototypes: methods,
-    } = methods;
-    let front = earlier(earlier(broken.names, of_bases), broken.cycle);
+    let front = earlier(earlier(broken.names, bases.least), broken.cycle);
     CheckedInterface {
-        least: earlier(earlier(front, of_methods), broken.counts),
+        least: earlier(earlier(front, methods.least), broken.counts),
         interface: InterfaceDecl {
             line,
             name,
-            bases,
-            methods,
+            bases: bases.into_interfaces(),
+            methods: methods.into_prototypes(),
         },
     }
 }

@@ -1,6 +1,6 @@
 //! Methods of an interface, one after the other.
 
-ghost use Rattle.std.specs.Prelude.{IfOk};
+ghost use Rattle.std.specs.Prelude.{◌≡◌, IfOk};
 ghost use Rattle.check_classes.specs.interface_rules.Prototypes.{ChecksPrototypes};
 ghost use Rattle.check_classes.specs.interface_rules.Private.Prototypes.{AddsPrototype, NoPrototypes};
 
@@ -12,10 +12,29 @@ use std::alloc::Global;
 use symbol_table::unit_tables::UnitTables;
 
 /// What is found out about methods of an interface.
-#[derive(Drop)]
 pub struct CheckedPrototypes {
     pub least: Option<(Code, u32)>,
     pub prototypes: Items<Prototype<Note>>,
+}
+
+// By hand, so that a drop is one call: a derived one is written out wherever a `?` may need it.
+impl Drop for CheckedPrototypes {
+    fn drop(self) {
+        drop(self.into_prototypes());
+    }
+}
+
+impl CheckedPrototypes {
+    /// The typed trees alone.
+    pub fn into_prototypes(self) -> Items<Prototype<Note>>
+        ensures { result ≡ self.prototypes }
+    {
+        let CheckedPrototypes {
+            least: _,
+            prototypes,
+        } = self;
+        prototypes
+    }
 }
 
 fn no_prototypes(alloc: Global) -> CheckedPrototypes
@@ -33,16 +52,11 @@ fn with_prototype(
 ) -> Result<CheckedPrototypes, NoMemory>
     ensures { IfOk result (λ x. AddsPrototype x so_far one) }
 {
-    let CheckedPrototypes {
-        least,
-        mut prototypes,
-    } = so_far;
-    let CheckedPrototype { least: own, method } = one;
-    prototypes.push(method)?;
-    Ok(CheckedPrototypes {
-        least: earlier(least, own),
-        prototypes,
-    })
+    let mut so_far = so_far;
+    let CheckedPrototype { least, method } = one;
+    so_far.least = earlier(so_far.least, least);
+    so_far.prototypes.push(method)?;
+    Ok(so_far)
 }
 
 /// Checks methods of an interface.

@@ -17,7 +17,6 @@ use std::alloc::Global;
 use symbol_table::unit_tables::UnitTables;
 
 /// What is found out about the members of a class.
-#[derive(Drop)]
 pub struct CheckedMembers {
     /// The least rule that its sections break, with its least line.
     pub sections: Option<(Code, u32)>,
@@ -25,6 +24,27 @@ pub struct CheckedMembers {
     pub methods: Option<(Code, u32)>,
     /// The members with all types and meanings, where no method breaks a rule.
     pub members: Items<Member<Note>>,
+}
+
+// By hand, so that a drop is one call: a derived one is written out wherever a `?` may need it.
+impl Drop for CheckedMembers {
+    fn drop(self) {
+        drop(self.into_members());
+    }
+}
+
+impl CheckedMembers {
+    /// The typed trees alone.
+    pub fn into_members(self) -> Items<Member<Note>>
+        ensures { result ≡ self.members }
+    {
+        let CheckedMembers {
+            sections: _,
+            methods: _,
+            members,
+        } = self;
+        members
+    }
 }
 
 /// What is found out about a member.
@@ -95,22 +115,16 @@ fn no_members(alloc: Global) -> CheckedMembers
 fn with_member(so_far: CheckedMembers, one: CheckedMember) -> Result<CheckedMembers, NoMemory>
     ensures { IfOk result (λ x. AddsMember x so_far one) }
 {
-    let CheckedMembers {
-        sections,
-        methods,
-        mut members,
-    } = so_far;
+    let mut so_far = so_far;
     let CheckedMember {
         section,
         method,
         member,
     } = one;
-    members.push(member)?;
-    Ok(CheckedMembers {
-        sections: earlier(sections, section),
-        methods: earlier(methods, method),
-        members,
-    })
+    so_far.sections = earlier(so_far.sections, section);
+    so_far.methods = earlier(so_far.methods, method);
+    so_far.members.push(member)?;
+    Ok(so_far)
 }
 
 /// Checks the members of the class of this number, in its scope: the least rule that its sections break and the least one that its methods
