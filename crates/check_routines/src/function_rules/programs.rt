@@ -93,6 +93,7 @@ fn check_in(
     let list = section_names(alloc, sections)?;
     let all = list.as_slice();
     let names = space_fault(alloc, all)?;
+    drop(list);
     let limits = limits_fault(alloc, s, parts, program)?;
     let name = program.name.copy(alloc)?;
     let (tables, classes) = (parts.names, parts.classes);

@@ -27,11 +27,8 @@ pub struct CheckedPrototype {
 fn prototype_of(line: u32, name: Name, found: CheckedVariables) -> CheckedPrototype
     ensures { IsPrototype result line name found }
 {
-    let CheckedVariables {
-        least,
-        result: kind,
-        sections,
-    } = found;
+    let least = found.least;
+    let (kind, sections) = found.into_parts();
     CheckedPrototype {
         least,
         method: Prototype {

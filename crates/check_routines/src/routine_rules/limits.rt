@@ -32,6 +32,7 @@ pub fn limits_fault(
     let names = list.as_slice();
     let cycles = inner_cycles_fault(alloc, names)?;
     let many = parameters_fault(line, names);
+    drop(list);
     let items = items_depth_fault(alloc, s, parts.sizes, parts.graph, sections)?;
     let deep = result_depth_fault(alloc, s, parts.sizes, parts.graph, line, spec)?;
     Ok(earlier(cycles, earlier(earlier(many, items), deep)))

@@ -35,17 +35,14 @@ fn routine_of(
 ) -> CheckedRoutine
     ensures { IsRoutine result variables locals body }
 {
-    let CheckedVariables {
-        least,
-        result: kind,
-        sections,
-    } = variables;
+    let own = earlier(variables.least, locals);
+    let (kind, sections) = variables.into_parts();
     let FoundBody {
         least: of_body,
         body,
     } = body;
     CheckedRoutine {
-        least: earlier(earlier(least, locals), of_body),
+        least: earlier(own, of_body),
         result: kind,
         sections,
         body,

@@ -1,6 +1,6 @@
 //! What a routine declares: its sections and its result.
 
-ghost use Rattle.std.specs.Prelude.{IfOk};
+ghost use Rattle.std.specs.Prelude.{◌≡◌, IfOk};
 ghost use Rattle.section_rules.specs.Home.{home_of};
 ghost use Rattle.check_routines.specs.routine_rules.Parts.{Serves};
 ghost use Rattle.check_routines.specs.routine_rules.Variables.{ChecksVariables};
@@ -17,12 +17,35 @@ use st_tree::{Note, Section, TypeSpec};
 use std::alloc::Global;
 
 /// What is found out about the sections and the result of a routine.
-#[derive(Drop)]
 pub struct CheckedVariables {
     /// The least rule that is broken, with its least line.
     pub least: Option<(Code, u32)>,
     pub result: Option<TypeSpec<Note>>,
     pub sections: Items<Section<Note>>,
+}
+
+// By hand, so that a drop is one call: a derived one is written out wherever a `?` may need it.
+impl Drop for CheckedVariables {
+    fn drop(self) {
+        let (kind, sections) = self.into_parts();
+        drop(kind);
+        drop(sections);
+    }
+}
+
+impl CheckedVariables {
+    /// The result and the sections.
+    pub fn into_parts(self) -> (Option<TypeSpec<Note>>, Items<Section<Note>>)
+        ensures kind { result.0 ≡ self.result }
+        ensures sections { result.1 ≡ self.sections }
+    {
+        let CheckedVariables {
+            least: _,
+            result: kind,
+            sections,
+        } = self;
+        (kind, sections)
+    }
 }
 
 /// Sections and a result, which break this besides.
