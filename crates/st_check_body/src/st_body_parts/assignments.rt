@@ -129,9 +129,10 @@ pub fn check_attempt(
     let b = placed(s, &place.root, place.selectors.as_slice());
     let told = standing_type(alloc, b)?;
     let of_place = attempt_place_fault(root_line(&place.root), &told);
+    drop(told);
+    let note = note_of(alloc, place_line, b, Target::Nothing)?;
     let x = check_whole(alloc, s, value, &Asked::Anything)?;
     let of_value = attempted_fault(line_of(value), is_null(value), &x.told);
-    let note = note_of(alloc, place_line, b, Target::Nothing)?;
     let on_left = earlier(target.least, of_place);
     let on_both = earlier(on_left, x.least);
     let found = earlier(on_both, of_value);
