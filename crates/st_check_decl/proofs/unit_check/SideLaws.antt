@@ -18,12 +18,12 @@ use Rattle.st_check_decl.specs.declared.unit_check.side.CheckSide.{CheckSide}
 use Rattle.st_check_decl.specs.unit_check.Checking.{OnRefused}
 use Rattle.st_check_decl.specs.unit_check.Private.Side.{ServesUnit}
 
-pub serves : (x : CheckSide) (u : ProgramText) (ds : List (Decl ℕ)) → x.tables.now ≡ u → x.scope.now ≡ scope_in x.tables.now.decls None false [] → HasPrograms x.programs.now x.tables.now.decls → ds ≡ u.decls → Knows x.classes.names.now (classes_in ds)
+pub serves : (x : CheckSide) (u : ProgramText) → x.tables.now ≡ u → x.scope.now ≡ scope_in x.tables.now.decls None false [] → HasPrograms x.programs.now x.tables.now.decls → Knows x.classes.names.now (classes_in u.decls)
     → Tells x.classes.signatures.now.worths x.classes.signatures.now.signatures (signatures x.tables.now.decls) → x.heights.now ≡ u → ServesUnit x
-serves x u ds e s p d k t h = record {
+serves x u e s p k t h = record {
   scope = s;
   programs = p;
-  names = subst (λ (xs : List (Decl ℕ)). Knows x.classes.names.now (classes_in xs)) (d ∙ ap (λ (v : ProgramText). v.decls) (sym e)) k;
+  names = subst (λ (xs : List (Decl ℕ)). Knows x.classes.names.now (classes_in xs)) (ap (λ (v : ProgramText). v.decls) (sym e)) k;
   signatures-are = t;
   heights = h ∙ sym e;
 }

@@ -1,6 +1,8 @@
 //! A whole unit.
 
 ghost use Rattle.std.specs.Prelude.{◌≡◌, [], None, false, IfErr, IfOk};
+ghost use Rattle.st_rules.specs.Classes.{classes_in};
+ghost use Rattle.check_names.specs.member_names.Known.{Knows};
 ghost use Rattle.st_unit_rules.specs.passing_laws.Passing.{AllDeclsGood, no_declarations};
 ghost use Rattle.st_unit_rules.specs.passing_laws.PassingLaws.{all_of};
 ghost use Rattle.st_unit_rules.specs.Checked.{IsChecked};
@@ -53,6 +55,37 @@ fn check_by(alloc: Global, side: &CheckSide<'_, '_>, decls: &[Decl<u32>]) -> Res
     }
 }
 
+/// Checks a unit in its scope, by its tables, the heights of its interfaces and the names of its classes' members.
+fn check_beside<'a>(
+    alloc: Global,
+    unit: &Unit,
+    tables: &'a UnitTables<'_>,
+    scope: &'a Scope<'a>,
+    heights: &'a InterfaceHeights,
+    names: &'a MemberNames,
+) -> Result<Program, Denied>
+    requires tables { tables.now ≡ unit.now }
+    requires scope { scope.now ≡ scope_in tables.now.decls None false [] }
+    requires heights { heights.now ≡ unit.now }
+    requires names { Knows names.now (classes_in unit.now.decls) }
+    ensures ok { IfOk result (λ p. IsGood unit.now.decls × IsChecked unit.now.decls p) }
+    ensures err { IfErr result (λ e. OnRefused e (λ r. UnitRefusal unit.now.decls r.code r.declaration r.line)) }
+{
+    let programs = UnitPrograms::build(alloc, tables)?;
+    let signatures = unit_signatures(alloc, tables)?;
+    let side = CheckSide {
+        tables,
+        scope,
+        programs: &programs,
+        classes: ClassSide {
+            names,
+            signatures: &signatures,
+        },
+        heights,
+    };
+    check_by(alloc, &side, unit.decls.as_slice())
+}
+
 /// Checks a unit in its scope, by its tables.
 fn check_in<'a>(
     alloc: Global,
@@ -68,19 +101,7 @@ fn check_in<'a>(
     let decls = unit.decls.as_slice();
     let heights = InterfaceHeights::build(alloc, unit, tables.class_tables())?;
     let names = MemberNames::build(alloc, decls)?;
-    let programs = UnitPrograms::build(alloc, tables)?;
-    let signatures = unit_signatures(alloc, tables)?;
-    let side = CheckSide {
-        tables,
-        scope,
-        programs: &programs,
-        classes: ClassSide {
-            names: &names,
-            signatures: &signatures,
-        },
-        heights: &heights,
-    };
-    check_by(alloc, &side, decls)
+    check_beside(alloc, unit, tables, scope, &heights, &names)
 }
 
 /// Checks a unit: its checked program, or why it is refused: the name of its first bad declaration, with the least rule that it breaks at

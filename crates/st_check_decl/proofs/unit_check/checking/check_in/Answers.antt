@@ -1,15 +1,7 @@
-use Rattle.std.proofs.Common.{sym, ◌∙◌}
-use Rattle.st_check_decl.proofs.unit_check.SideLaws.{good_of, refused_of, serves}
+use Rattle.std.proofs.Common.{subst}
+use Rattle.st_rules.specs.Classes.{classes_in}
+use Rattle.check_names.specs.member_names.Known.{Knows}
 use Rattle.st_check_decl.proofs.unit_check.checking.check_in.Goals as goal
 
-pub check_by-requires-clause-side : goal.check_by-requires-clause-side
-check_by-requires-clause-side c = serves _ c.args.unit.now _ c.requires.tables c.requires.scope c.in_ok-programs.ensures c.as_slice-decls.ensures c.in_ok-names.ensures c.in_ok-signatures.ensures c.in_ok-heights.ensures
-
-pub check_by-requires-clause-unit : goal.check_by-requires-clause-unit
-check_by-requires-clause-unit c = c.as_slice-decls.ensures ∙ (λ i. (sym c.requires.tables i).decls)
-
-pub returns-clause-ok : goal.returns-clause-ok
-returns-clause-ok c = good_of _ c.args.unit.now c.as_slice-decls.ensures _ c.check_by.ensures.ok
-
-pub returns-clause-err : goal.returns-clause-err
-returns-clause-err c = refused_of _ c.args.unit.now c.as_slice-decls.ensures _ c.check_by.ensures.err
+pub check_beside-requires-clause-names : goal.check_beside-requires-clause-names
+check_beside-requires-clause-names c = subst (λ xs. Knows c.in_ok-names.names (classes_in xs)) c.as_slice-decls.ensures c.in_ok-names.ensures
