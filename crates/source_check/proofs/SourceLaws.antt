@@ -1,5 +1,5 @@
 -- A source that is accepted, and one that is refused.
-use Rattle.std.proofs.Common.{◌≡◌, ◌⊎◌, inl, inr, ℕ, zero, suc, ◌<◌, ◌≤◌, List, [], length, map, Result, Ok, Err, sym, subst, arith}
+use Rattle.std.proofs.Common.{◌⊎◌, inl, inr, ℕ, zero, suc, ◌<◌, ◌≤◌, List, length, Result, Ok, Err, sym, subst, arith}
 use Rattle.std.specs.Prelude.{codes, IfOk, IfErr}
 use Rattle.plc_text.specs.Lines.{line_of}
 use Rattle.plc_text.specs.declared.code.Code.{Code}
