@@ -1,0 +1,4 @@
+pub mod MoveFacts
+pub mod MoverLaws
+pub mod FindFacts
+pub mod TableFacts
