@@ -110,8 +110,8 @@ pub fn is_base_body(callee: Callee<'_>) -> bool
     }
 }
 
-/// Eight bytes for each parameter, and 24 before them.
-fn parameter_place(i: u32) -> Result<u32, NoMemory>
+/// How many bytes into a block a parameter stands: eight for each, and 24 before them.
+pub fn parameter_place(i: u32) -> Result<u32, NoMemory>
     ensures { IfOk result (λ m. m ≡ sizes.of_parameter i) }
 {
     let Some(bytes) = i.checked_mul(8) else {
@@ -317,7 +317,7 @@ pub fn behind_argument<'p>(
 // ---- the mask
 
 /// The number with one bit.
-fn bit(i: u32) -> Result<u64, NoMemory>
+pub fn bit(i: u32) -> Result<u64, NoMemory>
     ensures { IfOk result (λ n. n ≡ bit i) }
 {
     let mut n = 1u64;
