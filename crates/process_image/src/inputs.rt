@@ -25,7 +25,7 @@ use std::alloc::Global;
 use value_trees::{Value, copy_path};
 
 /// A byte of the input; behind the bytes that are given stand zeros.
-fn input_byte(input: &[u8], b: usize) -> u64
+pub fn input_byte(input: &[u8], b: usize) -> u64
     ensures value { result ≡ words.input_byte input.now b }
     ensures few { result < 256 }
 {
@@ -63,7 +63,7 @@ fn long_word(input: &[u8], b: usize) -> u64
 }
 
 /// The number in so many bytes from one on; a bit lies in one.
-fn whole_number(input: &[u8], first: usize, width: Width) -> u64
+pub fn input_number(input: &[u8], first: usize, width: Width) -> u64
     requires { first < 2 ^ 32 }
     ensures { result ≡ words.input_number input.now first (words.bytes_in width) }
 {
@@ -81,7 +81,7 @@ fn wrapped(input: &[u8], first: usize, width: Width, elem: Elem) -> i128
     requires { first < 2 ^ 32 }
     ensures { result ≡ wrapped elem (pos (words.input_number input.now first (words.bytes_in width))) }
 {
-    wrap(elem, i128::from(whole_number(input, first, width)))
+    wrap(elem, i128::from(input_number(input, first, width)))
 }
 
 /// The bit of an address in a byte.
@@ -152,7 +152,7 @@ fn give(alloc: Global, m: &mut RunState, x: &Located<'_>, input: &[u8]) -> Resul
 }
 
 /// Whether a region is one of these.
-pub(crate) fn is_among(regions: &[u32], region: u32) -> bool
+pub fn is_among(regions: &[u32], region: u32) -> bool
     ensures { result ≡ is_among region regions.now }
 {
     regions.contains(&region)

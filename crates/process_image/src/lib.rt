@@ -6,6 +6,7 @@ mod inputs;
 mod located;
 mod outputs;
 
-pub use inputs::latch;
+pub use addresses::{bit_weight, bytes_in, first_byte, is_input, is_output, size_of};
+pub use inputs::{input_byte, input_number, is_among, latch};
 pub use located::{Located, located_of};
 pub use outputs::collect;
