@@ -1,0 +1,13 @@
+use Rattle.std.proofs.Common.{◌≡◌, ◌∙◌, ap, sym, subst, arith, length}
+use Rattle.undo_image.specs.Private.Blocks.{AreMarked}
+use Rattle.undo_image.proofs.BlockLaws.{written_undoable}
+use Rattle.undo_image.proofs.undo_image.UndoImage.fill_from.Goals as goal
+
+pub invariant_of-self : goal.invariant_of-self
+invariant_of-self c =
+    let a = c.args in
+    let b = c.preserve.new.self in
+    let stays = c.preserve.ensures.stays in
+    let same : length b.image ≡ length c.self.inside.blocks.image = ap length stays.image in
+    let view : length c.self.inside.blocks.image ≡ length a.self.now.bytes = ap (λ x. length x.bytes) c.self.view_is in
+    written_undoable b _ a.bytes.now _ a.to (stays.undoable _ c.self.invariant) (omega (arith, c.requires)) c.preserve.ensures.marked c.fill_from.ensures.after
