@@ -1,4 +1,4 @@
-//! The types of a program's regions unfolded into trees, as the meaning unfolds them.
+//! The types of a program unfolded into trees, as the meaning unfolds them.
 #![tactic(auto)]
 
 mod instances;
@@ -13,4 +13,4 @@ pub use names::class_name;
 pub use parts::{part, shape_at};
 pub use same::{same_elem, same_names, same_shape};
 pub use shape::{Field, Shape};
-pub use unfolding::{Shapes, region_shape, region_shapes};
+pub use unfolding::{Shapes, region_shape, region_shapes, type_shape};

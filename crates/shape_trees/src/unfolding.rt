@@ -194,6 +194,20 @@ fn unfold_fields<'p>(
     Ok(Some(fields))
 }
 
+/// The shape of a type, where it has one.
+pub fn type_shape<'p>(
+    alloc: Global,
+    program: &'p Program,
+    members: &Members<'p>,
+    kind: &StType,
+) -> Result<Option<Shape<'p>>, NoMemory>
+    requires { tables.Holds (program_of program.now) members.now }
+    ensures { IfOk result (λ found. option_map shape_of found ≡ plain.shape_of (program_of program.now) kind.now) }
+{
+    let found = unfold(alloc, program, members, DEPTH, kind)?;
+    Ok(found)
+}
+
 /// Whether a type has fields.
 fn is_structure(body: &TypeBody<Note>) -> bool
     ensures { result ≡ is_some (plain.fields_of (type_body body.now)) }
