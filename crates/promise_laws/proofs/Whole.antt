@@ -31,6 +31,7 @@ use Rattle.promise_laws.specs.PromiseLaws.{PromiseLaws}
 use Rattle.promise_laws.proofs.Bodies.{bodies_are}
 use Rattle.promise_laws.proofs.Hooks.{hooks_are}
 use Rattle.promise_laws.proofs.Joined.{program_is}
+use Rattle.promise_laws.proofs.Placed.{outputs_placed}
 use Rattle.scope_laws.specs.Agreement.{HasNumbers, MeetsInterfaces}
 use Rattle.name_laws.proofs.Stands.{function_stands, program_stands}
 use Rattle.scope_laws.proofs.Texts.{class_rules_good}
@@ -68,7 +69,7 @@ module _ (most : ℕ) (decls : List (Decl ℕ)) (p : Checked) (well : IsFormed m
   keeps : most ≤ 4_294_967_296 → KeepsPromise (program_of p)
   keeps l =
       let sized = sized_unit_laws.sized most decls p l well good checked in
-      record { program = program; hooks = hooks; sized = sized; outputs = sized_unit_laws.outputs most decls p well good checked; starts = sized_unit_laws.starts (program_of p) program sized }
+      record { program = program; hooks = hooks; sized = sized; outputs = sized_unit_laws.outputs most decls p well good checked; starts = sized_unit_laws.starts (program_of p) program sized; placed = outputs_placed p }
 
 -- ---- what is accepted
 

@@ -1,5 +1,6 @@
 -- What all that runs may rest on: what is promised of one program.
 use Rattle.st_values.specs.Program.{Program}
+use Rattle.st_meaning.specs.st_frame.OutputPlaces.{OutputsPlaced}
 use Rattle.st_meaning.specs.st_frame.Promise.Programs.{ProgramIs}
 use Rattle.st_change.specs.StoreLaws.{HooksAre}
 use Rattle.mem_layout.specs.loaded_meaning.Sized.{IsSized}
@@ -17,3 +18,5 @@ pub record KeepsPromise (p : Program) : Type 0 where
   pub outputs : OutputsAre p
   -- its regions begin with values of their types
   pub starts : StartsInRange p
+  -- the outputs of its functions and methods are locals, those of its bodies variables of the class
+  pub placed : OutputsPlaced p
