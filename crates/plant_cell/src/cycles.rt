@@ -2,11 +2,11 @@
 
 ghost use Rattle.std.specs.Prelude.{◌≡◌, ◌≤◌, true, length};
 ghost use Rattle.std.specs.Arc.{arc_value};
-ghost use Rattle.plant_rules.specs.History.{at_play, is_cycle, state_of, stage_at, done};
+ghost use Rattle.plant_rules.specs.History.{at_play, begun, is_cycle, state_of, stage_at, done};
 ghost use Rattle.plant_core.specs.Claim.{HasRun};
 ghost use Rattle.plant_cell.specs.Known.{past_at, first_of};
-ghost use Rattle.plant_cell.specs.Plant.{AtRest};
-ghost use Rattle.plant_cell.specs.Cycles.{HasEntry, KeepsEntries, HasOpened, GrowsBy, IsWaiting, TriedIs};
+ghost use Rattle.plant_cell.specs.Plant.{AtRest, KeepsOpen, KeepsTurn};
+ghost use Rattle.plant_cell.specs.Cycles.{HasEntry, KeepsEntries, KeepsOthersOpen, HasOpened, GrowsBy, IsWaiting, TriedIs, TriedAdds, EndAdds, TurnAdds};
 
 use crate::pass::{Pass, Turn};
 use crate::plant::PlantOver;
@@ -29,6 +29,7 @@ fn begin_in<P: Controlled>(core: &mut Core<P>, who: u32, play: u32) -> Tried<Cla
     requires there { play ≤ length core.old.script.plays }
     requires cycle { is_cycle (at_play P.meaning core.old.script play) ≡ true }
     ensures grown { GrowsBy who core.old core.new }
+    ensures adds { TriedAdds result who play (λ c. begun c.task (arc_value c.kit.shared) c.kit.carrier) core.old core.new }
     ensures tried { TriedIs result (λ c. HasOpened P.meaning core.new who play c.play c.task c.now c.input.items (arc_value c.kit.shared) c.kit.carrier × P.ready (arc_value c.kit.shared) c.task c.kit.work) (stage_at (state_of P.meaning core.new).stages play ≡ done) (IsWaiting P.meaning core.new play) }
 {
     match core.begin(who, play) {
@@ -57,6 +58,9 @@ impl<P: Controlled> PlantOver<Option<Core<P>>, View<P>, Origin<P>, Law<P>> {
         ensures plant { pass.new.seat.table_id ≡ pass.old.seat.table_id }
         ensures numbers { pass.new.numbers.items ≡ pass.old.numbers.items }
         ensures rest { AtRest P.meaning self.now.table.shared.key.0.value self.now.passes pass.new.numbers.items pass.new.seat.me }
+        ensures adds { TurnAdds self.now.table.shared.key.0.value pass.old.numbers.items pass.old.seat.me.0.seen pass.new.seat.me.0.seen (TriedAdds result (first_of pass.old.numbers.items) play (λ c. begun c.task (arc_value c.kit.shared) c.kit.carrier)) }
+        ensures open { KeepsOpen P.meaning self.now.table.shared.key.0.value pass.old.numbers.items pass.old.seat.me.0.seen (past_at self.now.table.shared.key.0.value pass.new.seat.me.0.seen) }
+        ensures change { KeepsTurn P.meaning self.now.table.shared.key.0.value pass.old.numbers.items pass.old.seat.me.0.seen (past_at self.now.table.shared.key.0.value pass.new.seat.me.0.seen) }
         ensures kept { KeepsEntries P.meaning self.now.table.shared.key.0.value pass.old.seat.me.0.seen pass.new.seat.me.0.seen }
         ensures tried { TriedIs result (λ c. HasOpened P.meaning (past_at self.now.table.shared.key.0.value pass.new.seat.me.0.seen) (first_of pass.old.numbers.items) play c.play c.task c.now c.input.items (arc_value c.kit.shared) c.kit.carrier × P.ready (arc_value c.kit.shared) c.task c.kit.work) (HasEntry P.meaning self.now.table.shared.key.0.value pass.new.seat.me.0.seen play) (IsWaiting P.meaning (past_at self.now.table.shared.key.0.value pass.new.seat.me.0.seen) play) }
     {
@@ -78,6 +82,9 @@ impl<P: Controlled> PlantOver<Option<Core<P>>, View<P>, Origin<P>, Law<P>> {
         ensures plant { pass.new.seat.table_id ≡ pass.old.seat.table_id }
         ensures numbers { pass.new.numbers.items ≡ pass.old.numbers.items }
         ensures rest { AtRest P.meaning self.now.table.shared.key.0.value self.now.passes pass.new.numbers.items pass.new.seat.me }
+        ensures adds { TurnAdds self.now.table.shared.key.0.value pass.old.numbers.items pass.old.seat.me.0.seen pass.new.seat.me.0.seen (EndAdds (first_of pass.old.numbers.items) ran.play ran.reply) }
+        ensures open { KeepsOthersOpen P.meaning ran.play self.now.table.shared.key.0.value pass.old.numbers.items pass.old.seat.me.0.seen (past_at self.now.table.shared.key.0.value pass.new.seat.me.0.seen) }
+        ensures change { KeepsTurn P.meaning self.now.table.shared.key.0.value pass.old.numbers.items pass.old.seat.me.0.seen (past_at self.now.table.shared.key.0.value pass.new.seat.me.0.seen) }
         ensures kept { KeepsEntries P.meaning self.now.table.shared.key.0.value pass.old.seat.me.0.seen pass.new.seat.me.0.seen }
         ensures entry { HasEntry P.meaning self.now.table.shared.key.0.value pass.new.seat.me.0.seen ran.play }
     {
