@@ -7,4 +7,6 @@ mod parts;
 mod references;
 mod store;
 
-pub use store::carry_store;
+pub use carry::stays;
+pub use parts::{class_names, field_places, structure_names};
+pub use store::{carry_store, is_carried, region_before};

@@ -36,7 +36,7 @@ fn is_meant(keeping: bool, flag: bool) -> bool
 }
 
 /// The old region that a new one comes from.
-fn region_before(c: &Change<'_, '_>, region: u32) -> Option<u32>
+pub fn region_before(c: &Change<'_, '_>, region: u32) -> Option<u32>
     requires { IsChange c.now }
     ensures { result ≡ from.old_region (program_of c.now.old.program.now) (program_of c.now.new.program.now) region }
 {
@@ -83,7 +83,7 @@ fn carry_value(
 }
 
 /// Whether a region is to get something.
-fn is_carried(kept: &[bool], keeping: bool, region: u32, decl: &RegionDecl) -> bool
+pub fn is_carried(kept: &[bool], keeping: bool, region: u32, decl: &RegionDecl) -> bool
     ensures { result ≡ (from.same_flag keeping (is_set (slice_get kept.now region)) && not (decl.now.marks.init_on_change || (decl.now.marks.no_copy && not keeping))) }
 {
     let is_marked = stays(decl.marks.init_on_change, decl.marks.no_copy, keeping);
