@@ -1,0 +1,4 @@
+pub mod Entering
+pub mod Numbers
+pub mod Valid
+pub mod CodeLaws

@@ -1,0 +1,9 @@
+use Rattle.valid_programs.proofs.CodeLaws.{code_is}
+use Rattle.valid_programs.proofs.Valid.{program_valid}
+use Rattle.valid_programs.proofs.laws.valid_program_laws.Goals as goal
+
+pub returns-clause-valid : goal.returns-clause-valid
+returns-clause-valid c = λ p fine programs lives plans code right is. program_valid p fine programs lives plans code right is
+
+pub returns-clause-told : goal.returns-clause-told
+returns-clause-told c = λ p lives plans code told is. code_is p lives plans code told is
