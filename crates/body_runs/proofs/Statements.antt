@@ -45,7 +45,7 @@ use Rattle.st_meaning.specs.st_frame.Promise.Calls.{kind, CallIs}
 use Rattle.st_meaning.specs.st_frame.Promise.Types.{IsElementary, IsNoInstance, IsHeld, Widens, same_type, wider_number, wider_path, IsNamed}
 use Rattle.st_meaning.specs.st_frame.Promise.Places.{NamedIs}
 use Rattle.st_meaning.proofs.st_frame.OfTypes.{OfKind, widened, path_is, bit_fits}
-use Rattle.st_meaning.proofs.st_frame.Spots.{SpotIs, as_plain, below}
+use Rattle.st_meaning.proofs.st_frame.Spots.{SpotIs, below}
 use Rattle.st_meaning.proofs.st_frame.Obeys.{Obeys, then_obeys, obeys_less, Anything, spend_obeys, gives_obeys}
 use Rattle.st_meaning.proofs.st_frame.Bodies.{All, Covered, CallsObey}
 use Rattle.st_meaning.specs.Loop.{Flow, goes_on, exits, continues, returns as leaves, unless_left, after_turn, turns, turns_until}
@@ -65,13 +65,13 @@ use Rattle.stack_code.specs.declared.memory.Address.{Address}
 use Rattle.stack_code.specs.declared.memory.Word.{Word}
 use Rattle.stack_code.specs.declared.op.Op.{Op}
 use Rattle.stack_code.specs.declared.code.MachineCode.{MachineCode}
-use Rattle.stack_code.specs.Memory.{Memory, read as read_bytes, write as write_bytes, copy as copy_bytes, kept as kept_word}
+use Rattle.stack_code.specs.Memory.{Memory, read as read_bytes, write as write_bytes, copy as copy_bytes}
 use Rattle.stack_code.specs.Steps.{Step, Goes, faults, ◌>>=◌ as ◌>>=step◌}
 use Rattle.stack_code.specs.Machine.{Config, act, on, jumps, on_memory, spend as spend_tick, has_carry, truth}
 use Rattle.stack_code.specs.declared.memory.Word.TheVariants as word
 use Rattle.stack_code.specs.declared.op.Op.TheVariants as op
 use Rattle.stack_code.specs.Machine as machine
-use Rattle.mem_layout.specs.store_bytes.StoreLaws.{IsNumber, Keeps as KeepsBytes}
+use Rattle.mem_layout.specs.store_bytes.StoreLaws.{Keeps as KeepsBytes}
 use Rattle.mem_layout.proofs.store_bytes.Leaves.{holds_written, keeps_written, length-written, value_is}
 use Rattle.mem_layout.specs.store_bytes.Spells.{Holds, Spells}
 use Rattle.mem_layout.proofs.store_bytes.Apart.{place_laws}
@@ -85,19 +85,17 @@ use Rattle.code_rules.specs.Places.{bytes_of, is_large, room_of}
 use Rattle.code_rules.specs.Bodies.{effect_code, effects_code, branches_code, otherwise_code, within_code, advance_code, label_code, labels_code, cases_code, assigned_code, step_code, step_kind, called_effect_code}
 use Rattle.code_rules.specs.Tops.{call_top, along_top, value_top, source_top, assigned_top, step_top, effect_top, effects_top, branches_top, cases_top, otherwise_top}
 use Rattle.shown_memory.specs.Shown.{Kept, Open, scopes, Layout, layouts, Located, located, path_word, spot_word, word_at, value_word, FramesShown, Shown, Small}
-use Rattle.shown_memory.proofs.Locals.{kept_new, kept_less}
-use Rattle.shown_memory.proofs.Geometry.{held_shape}
-use Rattle.shown_memory.proofs.Parts.{sized, located_known}
-use Rattle.shown_memory.proofs.Geometry as geometry
-use Rattle.memory_access.proofs.Likes.{load_like, store_like, copy_like, local_there, path_kept, InstanceAt, instance_at, storeref_like, class_like, length_set}
+use Rattle.shown_memory.proofs.Locals.{kept_new}
+use Rattle.memory_access.proofs.Likes.{load_like, store_like, copy_like, local_there, InstanceAt, instance_at, class_like, length_set}
 use Rattle.memory_access.proofs.Narrow.{eight}
-use Rattle.memory_access.proofs.Copies.{Assigned, copy_place, put_kept, place_bytes}
+use Rattle.memory_access.proofs.Copies.{copy_place, put_kept, place_bytes}
 use Rattle.value_runs.proofs.Ends.{Leads, Stands, flow_at}
 use Rattle.value_runs.proofs.Expressions.{Fair, told, a_number, is_wrapped, both_fit}
-use Rattle.memory_access.proofs.Worded.{by_size, NoNumber, no_number, instances, held_path, path_small, numeric_small, numeric_value, number_small, large_plain, large_word, widens_small, widens_large, enumeration_shape, enumerator_fits}
+use Rattle.memory_access.proofs.Worded.{by_size, instances, held_path, path_small, numeric_small, numeric_value, number_small, large_word, widens_small, widens_large}
 use Rattle.body_runs.proofs.Quiet.{place_quiet}
 use Rattle.value_runs.proofs.Ends as ends
 use Rattle.value_runs.proofs.Expressions as runs
+use Rattle.body_runs.proofs.Stores as stores
 
 abbrev own_part : ℕ → Path → Spot
 own_part k q = into (in_store q) (step.Field k)
@@ -197,9 +195,6 @@ module _ (p : Program) (fine : ProgramIs p) (small : Small p) (is_there : ℕ �
       (subst (λ n. Leads code now (Goes (record { here = record { routine = r; next = pc + 1; own = own }; words = ws; around = ar; memory = x.memory; ticks = n })) (lost (pc + 1) ws) (Shows free kept) (Done tt x.state)) x.same_ticks
       (ends.stays code now tt x.state x.memory x.shows)))))))) has
 
-  lost_by : {here : Step Config} {shown : Unit {0} → State → Memory → Type 0} {o : Outcome (Unit {0})} (a b : ℕ) (ws : List Word) → a ≡ b → Leads code now here (lost a ws) shown o → Leads code now here (lost b ws) shown o
-  lost_by {here = here} {shown = shown} {o = o} a b ws e h = subst (λ n. Leads code now here (lost n ws) shown o) e h
-
   -- the order in which steps of a run are written does not matter
   in_order : {A B : Type 0} (m : Run A) (f : A → Run B) (g : A → B → Run (Unit {0})) (line : ℕ) (s : State) → go_on ((m >>= λ a. f a >>= λ b. g a b) line s) (λ _ t. Done goes_on t) ≡ (m >>= λ a. f a >>= λ b. g a b >>= λ _. gives goes_on) line s
   in_order {A = A} m f g line s = by (m line s)
@@ -224,10 +219,6 @@ module _ (p : Program) (fine : ProgramIs p) (small : Small p) (is_there : ℕ �
 
   done_value : {A : Type 0} {a b : A} {s t : State} → Done a s ≡ Done b t → a ≡ b
   done_value e = cc
-
-  -- what was kept behind the locals is no longer of use
-  pub no_longer : (free free' : ℕ) (x : Kept) (kept : List Kept) (s : State) (m : Memory) → x.from ≡ free → Now_shown free' (x ∷ kept) s m → Now_shown free kept s m
-  no_longer free free' x kept s m e sh = record { regions = sh.regions; frames = kept_less p base (record k0 { free = free' }) ks s.frames m.locals free x kept e sh.frames; deep = sh.deep; moment = sh.moment }
 
   -- ---- statements
 
@@ -356,103 +347,6 @@ module _ (p : Program) (fine : ProgramIs p) (small : Small p) (is_there : ℕ �
   widens_elementary t u k (wider_number {a = a} {b = b} h) e = (a, refl)
   widens_elementary t u k (wider_path i h n) e = absurd (subst IsHeld e h)
 
-  -- ---- what is kept at a place: a number, a reference, a whole array or structure
-
-  number_stored : (e : Elem) (z : ℤ) (t : StType) (free pc line : ℕ) (kept : List Kept) (ws : List Word) (spot : Spot) (s : State) (m : Memory) (f : SpotIs p fine F W gs spot t) → IsNumber (runs.lies p fine small is_there W first R code now base tables room reached k0 ks r own ar line own_there spot t f).place.shape e → Fits e z → Now_shown free kept s m → Stands code now r pc (does (op.Store e) line ∷ [])
-      → From (cfg pc (spot_word p base ls spot ∷ (word.Number z ∷ ws)) s m) (lost (pc + 1) ws) (Shows free kept) (write spot (number z) line s)
-  number_stored e z t free pc line kept ws spot s m f is_number fits sh has =
-      let l = runs.lies p fine small is_there W first R code now base tables room reached k0 ks r own ar line own_there spot t f in
-      let x = store_like p base is_there now (kept_at free kept) spot e l.place z m s sh l.is (runs.within_is p fine small is_there W first R code now base tables room reached k0 ks r own ar line own_there spot t f) is_number fits in
-      subst (λ (y : Option Located). From (cfg pc (word_at p base y ∷ (word.Number z ∷ ws)) s m) (lost (pc + 1) ws) (Shows free kept) (write spot (number z) line s)) (sym l.is)
-      (ends.step_leads code now (op.Store e, line) has.0
-      (subst (λ y. Leads code now (write_bytes e m l.place.address y >>=step λ m'. on_memory (cfg pc (word.Address l.place.address ∷ (word.Number z ∷ ws)) s m) ws m') (lost (pc + 1) ws) (Shows free kept) (write spot (number z) line s)) (sym (is_wrapped p fine small is_there W first R code now base tables e z fits))
-      (ends.goes_leads code now (write_bytes e m l.place.address z) x.memory _ x.by_bytes
-      (ends.same_outcome code now (x.by_state line)
-      (subst (λ n. Leads code now (Goes (record { here = record { routine = r; next = pc + 1; own = own }; words = ws; around = ar; memory = x.memory; ticks = n })) (lost (pc + 1) ws) (Shows free kept) (Done tt x.state)) x.same_ticks
-      (ends.stays code now tt x.state x.memory x.shows))))))
-
-  storeref_acts : (w : Word) → NoNumber w → (a : Address) (pc line : ℕ) (ws : List Word) (s : State) (m : Memory) → act code now op.StoreRef line (cfg pc (word.Address a ∷ (w ∷ ws)) s m) ≡ (kept_word w >>=step λ v. write_bytes elem.Ulint m a v >>=step λ m'. on_memory (cfg pc (word.Address a ∷ (w ∷ ws)) s m) ws m')
-  storeref_acts (word.Number z) h a pc line ws s m = absurd h
-  storeref_acts (word.Address b) h a pc line ws s m = refl
-  storeref_acts word.Null h a pc line ws s m = refl
-
-  reference_stored : (t : StType) (o : Option Path) (free pc line : ℕ) (kept : List Kept) (ws : List Word) (spot : Spot) (s : State) (m : Memory) → IsHeld t → ((q : Path) → o ≡ Some q → InstanceAt p base is_there now q) → SpotIs p fine F W gs spot t → Now_shown free kept s m → Stands code now r pc (does op.StoreRef line ∷ [])
-      → From (cfg pc (spot_word p base ls spot ∷ (path_word p base o ∷ ws)) s m) (lost (pc + 1) ws) (Shows free kept) (write spot (reference o) line s)
-  reference_stored t o free pc line kept ws spot s m i names f sh has =
-      let l = runs.lies p fine small is_there W first R code now base tables room reached k0 ks r own ar line own_there spot t f in
-      let keep = path_kept p base is_there now o small names in
-      let x = storeref_like p base is_there now (kept_at free kept) spot l.place o m s keep sh l.is (runs.within_is p fine small is_there W first R code now base tables room reached k0 ks r own ar line own_there spot t f) (held_shape p fine l.place.shape t i l.meets) in
-      let write_next : ℤ → Step Config = λ v. write_bytes elem.Ulint m l.place.address v >>=step λ m'. on_memory (cfg pc (word.Address l.place.address ∷ (path_word p base o ∷ ws)) s m) ws m' in
-      subst (λ (y : Option Located). From (cfg pc (word_at p base y ∷ (path_word p base o ∷ ws)) s m) (lost (pc + 1) ws) (Shows free kept) (write spot (reference o) line s)) (sym l.is)
-      (ends.step_leads code now (op.StoreRef, line) has.0
-      (ends.same_start code now (storeref_acts (path_word p base o) (no_number p base is_there now o names) l.place.address pc line ws s m ∙ ap (λ y. y >>=step write_next) x.keeps)
-      (ends.goes_leads code now (write_bytes elem.Ulint m l.place.address (pos x.w)) x.memory _ x.by_bytes
-      (ends.same_outcome code now (x.by_state line)
-      (subst (λ n. Leads code now (Goes (record { here = record { routine = r; next = pc + 1; own = own }; words = ws; around = ar; memory = x.memory; ticks = n })) (lost (pc + 1) ws) (Shows free kept) (Done tt x.state)) x.same_ticks
-      (ends.stays code now tt x.state x.memory x.shows))))))
-
-  word_stored : (t : StType) (free pc line : ℕ) (kept : List Kept) (ws : List Word) (spot : Spot) (v : Value) (s : State) (m : Memory) → is_large t ≡ false → IsNoInstance t → SpotIs p fine F W gs spot t → OfKind p F t v → Now_shown free kept s m → Stands code now r pc (keep_code plan line t)
-      → (a : Address) → From (cfg pc (spot_word p base ls spot ∷ (value_word p base a v ∷ ws)) s m) (lost (pc + length (keep_code plan line t)) ws) (Shows free kept) (write spot v line s)
-  word_stored (type.Elementary e) free pc line kept ws spot v s m q i f is sh has a =
-      let z = a_number p fine small is_there W first R code now base tables (type.Elementary e) e v refl is in
-      let l = runs.lies p fine small is_there W first R code now base tables room reached k0 ks r own ar line own_there spot (type.Elementary e) f in
-      lost_by (pc + 1) _ ws (omega arith)
-      (subst (λ y. From (cfg pc (spot_word p base ls spot ∷ (value_word p base a y ∷ ws)) s m) (lost (pc + 1) ws) (Shows free kept) (write spot y line s)) (sym z.1)
-      (number_stored e z.0 (type.Elementary e) free pc line kept ws spot s m f (runs.number_shape p fine small is_there W first R code now base tables room reached k0 ks r own ar line own_there l.place.shape (type.Elementary e) e refl l.meets) z.2 sh has))
-  word_stored (type.Enumeration n) free pc line kept ws spot v s m q i f is sh has a =
-      let z = numeric_value p F (type.Enumeration n) v tt is in
-      let l = runs.lies p fine small is_there W first R code now base tables room reached k0 ks r own ar line own_there spot (type.Enumeration n) f in
-      lost_by (pc + 1) _ ws (omega arith)
-      (subst (λ y. From (cfg pc (spot_word p base ls spot ∷ (value_word p base a y ∷ ws)) s m) (lost (pc + 1) ws) (Shows free kept) (write spot y line s)) (sym z.1)
-      (number_stored elem.Udint z.0 (type.Enumeration n) free pc line kept ws spot s m f (enumeration_shape p fine n l.place.shape l.meets) (enumerator_fits p F small n z.0 (subst (OfKind p F (type.Enumeration n)) z.1 is)) sh has))
-  word_stored (type.Reference c) free pc line kept ws spot v s m q i f is sh has a =
-      lost_by (pc + 1) _ ws (omega arith)
-      (subst (λ y. From (cfg pc (spot_word p base ls spot ∷ (value_word p base a y ∷ ws)) s m) (lost (pc + 1) ws) (Shows free kept) (write spot y line s)) (sym is.1)
-      (reference_stored (type.Reference c) is.0 free pc line kept ws spot s m tt (instances p base is_there now (type.Reference c) is.0 is.2) f sh has))
-  word_stored (type.Interface c) free pc line kept ws spot v s m q i f is sh has a =
-      lost_by (pc + 1) _ ws (omega arith)
-      (subst (λ y. From (cfg pc (spot_word p base ls spot ∷ (value_word p base a y ∷ ws)) s m) (lost (pc + 1) ws) (Shows free kept) (write spot y line s)) (sym is.1)
-      (reference_stored (type.Interface c) is.0 free pc line kept ws spot s m tt (instances p base is_there now (type.Interface c) is.0 is.2) f sh has))
-  word_stored (type.Instance c) free pc line kept ws spot v s m q i f is sh has a = absurd i
-  word_stored t free pc line kept ws spot v s m q i f is sh has a = absurd (no_truth q)
-    where
-      no_truth : true ≡ false → ⊥
-      no_truth q = cc
-
-  keep_large : (t : StType) (line : ℕ) → is_large t ≡ true → keep_code plan line t ≡ does (op.Copy (bytes_of p t)) line ∷ []
-  keep_large (type.Elementary e) line q = cc
-  keep_large (type.Enumeration n) line q = cc
-  keep_large (type.Reference c) line q = cc
-  keep_large (type.Interface c) line q = cc
-  keep_large (type.Instance c) line q = cc
-  keep_large t line q = refl
-
-  -- the bytes at an address come to a place
-  large_stored : (n free pc line : ℕ) (kept : List Kept) (ws : List Word) (spot : Spot) (l : Located) (a : Address) (v : Value) (s : State) (m : Memory) → n ≡ store.size l.shape → located p base ls spot ≡ Some l → Assigned p base is_there now (kept_at free kept) spot a l.address (store.size l.shape) v m s
-      → Stands code now r pc (does (op.Copy n) line ∷ []) → From (cfg pc (spot_word p base ls spot ∷ (word.Address a ∷ ws)) s m) (lost {A = Unit {0}} (pc + 1) ws) (Shows free kept) (write spot v line s)
-  large_stored n free pc line kept ws spot l a v s m size_is at x has =
-      subst (λ (y : Option Located). From (cfg pc (word_at p base y ∷ (word.Address a ∷ ws)) s m) (lost {A = Unit {0}} (pc + 1) ws) (Shows free kept) (write spot v line s)) (sym at)
-      (ends.same_outcome code now (x.writes line)
-      (ends.step_leads code now (op.Copy n, line) has.0
-      (ends.goes_leads code now (copy_bytes n m a l.address) x.memory _ (ap (λ k. copy_bytes k m a l.address) size_is ∙ x.by_bytes)
-      (subst (λ k. Leads code now (Goes (record { here = record { routine = r; next = pc + 1; own = own }; words = ws; around = ar; memory = x.memory; ticks = k })) (lost {A = Unit {0}} (pc + 1) ws) (Shows free kept) (Done tt x.state)) x.same_ticks
-      (ends.stays code now tt x.state x.memory x.shows)))))
-
-  -- what a large place is
-  record LargePlace (t : StType) (spot : Spot) : Type 0 where
-    place_is : Located
-    is : located p base ls spot ≡ Some place_is
-    unfolds : Unfolds p t place_is.shape
-    size_is : bytes_of p t ≡ store.size place_is.shape
-
-  large_place : (line : ℕ) (t : StType) (spot : Spot) → is_large t ≡ true → SpotIs p fine F W gs spot t → LargePlace t spot
-  large_place line t spot large f =
-      let l = runs.lies p fine small is_there W first R code now base tables room reached k0 ks r own ar line own_there spot t f in
-      let a = as_plain p fine (Some l.place.shape) t (large_plain t large) l.meets in
-      let same = geometry.some_shape p fine l.place.shape a.0 a.2 in
-      let u = subst (Unfolds p t) (sym same) a.1 in
-      record { place_is = l.place; is = l.is; unfolds = u; size_is = sized p t l.place.shape u (located_known p base ls spot l.place l.is).within }
-
   -- ---- the place from which a whole array or structure is copied
 
   abbrev source_place : Expression Note → Run Spot
@@ -527,14 +421,14 @@ module _ (p : Program) (fine : ProgramIs p) (small : Small p) (is_there : ℕ �
       let small_e = widens_small p (kind e) a.kind h.3 is in
       let none : room_of (bytes_of p) (kind e) ≡ 0 = ap (λ b. if b then bytes_of p (kind e) else 0) small_e in
       let same : free' ≡ free = omega (arith, none) in
-      lost_by (pc + length ce + length cp + length ck) _ ws (omega (arith, length-append ce (cp ++ ck), length-append cp ck))
+      stores.lost_by p fine small is_there W first R code now base tables room reached k0 ks r own ar own_there (pc + length ce + length cp + length ck) _ ws (omega (arith, length-append ce (cp ++ ck), length-append cp ck))
       (bind {m = value p (enter p room) e} {line = line} (lands (pc + length ce) (λ v. value_word p base (here_at free) v ∷ ws)) (Shows free kept)
       (runs.plain_runs p fine small is_there W first R code now base tables room reached k0 ks r own ar line own_there (other_calls line) e free pc kept ws s m small_e tops.0 h.2 ue fair sh (ends.front code now r pc ce _ has)) (typing.value_obeys p fine F W first first R (enter p room) reached k0.scope (scopes ks) e h.2 ue) fair (λ v s2 m2 sh2 _ is2 fair2.
       bind {m = place p (enter p room) q ss} {line = line} (lands (pc + length ce + length cp) (λ y. spot_word p base ls y ∷ (value_word p base (here_at free) v ∷ ws))) (Shows free kept)
       (subst (λ n. along_top plan n ss ≤ k0.long → Stands code now r (pc + length ce) (place_code plan line n q ss) → From (cfg (pc + length ce) (value_word p base (here_at free) v ∷ ws) s2 m2) (lands (pc + length ce + length (place_code plan line n q ss)) (λ y. spot_word p base ls y ∷ (value_word p base (here_at free) v ∷ ws))) (Shows free kept) (place p (enter p room) q ss line s2)) (sym same)
       (λ top' has'. runs.place_run p fine small is_there W first R code now base tables room reached k0 ks r own ar line own_there (other_calls line) q ss free (pc + length ce) kept (value_word p base (here_at free) v ∷ ws) s2 m2 top' h.0.0 h.0.1 up fair2 sh2 has') tops.1 (ends.front code now r (pc + length ce) cp _ has_p))
       (runs.place_typed p fine small is_there W first R code now base tables room reached k0 ks r own ar line own_there q ss a.kind h.0.0 h.0.1 h.0.2 up) fair2 (λ spot s3 m3 sh3 _ is3 fair3.
-      word_stored a.kind free (pc + length ce + length cp) line kept ws spot v s3 m3 is h.1 is3 (widened p F (kind e) a.kind v h.3 is2) sh3 (ends.back code now r (pc + length ce) cp _ has_p) (here_at free))))
+      stores.word_stored p fine small is_there W first R code now base tables room reached k0 ks r own ar own_there a.kind free (pc + length ce + length cp) line kept ws spot v s3 m3 is h.1 is3 (widened p F (kind e) a.kind v h.3 is2) sh3 (ends.back code now r (pc + length ce) cp _ has_p) (here_at free))))
 
   -- of what is kept behind the locals while the target is found
   kept_assigned : (line : ℕ) (a : Note) (q : Root Note) (ss : Selectors Note) (e : Expression Note) → is_large a.kind ≡ true → (free pc : ℕ) (kept : List Kept) (ws : List Word) (s : State) (m : Memory) → assigned_top plan free ss e false ≤ k0.long → StatementIs p k0.scope (Assign line a q ss e) → AllOf (statement_uses p (Assign line a q ss e)) → IsFair s → Now_shown free kept s m
@@ -552,8 +446,8 @@ module _ (p : Program) (fine : ProgramIs p) (small : Small p) (is_there : ℕ �
       let ue = typing.back _ (root_uses q ++ along_uses p (root_note q).kind ss) _ uo in
       let same : kind e ≡ a.kind = widens_large p (kind e) a.kind h.3 large in
       let large_e : is_large (kind e) ≡ true = ap is_large same ∙ large in
-      let long_k : length ck ≡ 1 = ap length (keep_large a.kind line large) in
-      lost_by (pc + length ce + length cp + 1) _ ws (omega (arith, length-append ce (cp ++ ck), length-append cp ck, long_k))
+      let long_k : length ck ≡ 1 = ap length (stores.keep_large p fine small is_there W first R code now base tables room reached k0 ks r own ar own_there a.kind line large) in
+      stores.lost_by p fine small is_there W first R code now base tables room reached k0 ks r own ar own_there (pc + length ce + length cp + 1) _ ws (omega (arith, length-append ce (cp ++ ck), length-append cp ck, long_k))
       (bind {m = value p (enter p room) e} {line = line} (lands (pc + length ce) (λ v. value_word p base (here_at free) v ∷ ws)) (λ v t y. LargeValue line (kind e) free kept v t y)
       (subst (λ b. From (cfg pc ws s m) (lands (pc + length ce) (λ v. value_word p base (here_at free) v ∷ ws)) (λ v t y. by_size b (LargeValue line (kind e) free kept v t y) (Now_shown free kept t y)) (value p (enter p room) e line s)) large_e
       (runs.value_runs p fine small is_there W first R code now base tables room reached k0 ks r own ar line own_there (other_calls line) e free pc kept ws s m tops.0 h.2 ue fair sh (ends.front code now r pc ce _ has)))
@@ -564,13 +458,13 @@ module _ (p : Program) (fine : ProgramIs p) (small : Small p) (is_there : ℕ �
       bind {m = place p (enter p room) q ss} {line = line} (lands (pc + length ce + length cp) (λ y. spot_word p base ls y ∷ (value_word p base (here_at free) v ∷ ws))) (Shows free' (x ∷ kept))
       (runs.place_run p fine small is_there W first R code now base tables room reached k0 ks r own ar line own_there (other_calls line) q ss free' (pc + length ce) (x ∷ kept) (value_word p base (here_at free) v ∷ ws) s2 m2 tops.1 h.0.0 h.0.1 up fair2 i.shown (ends.front code now r (pc + length ce) cp _ has_p))
       (runs.place_typed p fine small is_there W first R code now base tables room reached k0 ks r own ar line own_there q ss a.kind h.0.0 h.0.1 h.0.2 up) fair2 (λ spot s3 m3 sh3 _ is3 fair3.
-      let l = large_place line a.kind spot large is3 in
+      let l = stores.large_place p fine small is_there W first R code now base tables room reached k0 ks r own ar own_there line a.kind spot large is3 in
       let shape_is : i.shape ≡ l.place_is.shape = shape_laws.once p a.kind i.shape l.place_is.shape (subst (λ y. Unfolds p y i.shape) same u_e) l.unfolds in
       let put = put_kept p base is_there now (record k0 { free = free' }) ks free i.bytes kept spot l.place_is v m3 s3 sh3 l.is (runs.within_is p fine small is_there W first R code now base tables room reached k0 ks r own ar line own_there spot a.kind is3) (i.long ∙ ap store.size shape_is) (subst (λ y. Spells (region_shape p) y v i.bytes 0) shape_is i.spells) in
-      let has_k = subst (Stands code now r (pc + length ce + length cp)) (keep_large a.kind line large) (ends.back code now r (pc + length ce) cp _ has_p) in
+      let has_k = subst (Stands code now r (pc + length ce + length cp)) (stores.keep_large p fine small is_there W first R code now base tables room reached k0 ks r own ar own_there a.kind line large) (ends.back code now r (pc + length ce) cp _ has_p) in
       subst (λ w. From (cfg (pc + length ce + length cp) (spot_word p base ls spot ∷ (w ∷ ws)) s3 m3) (lost {A = Unit {0}} (pc + length ce + length cp + 1) ws) (Shows free kept) (write spot v line s3)) (sym word_is)
-      (ends.and_leads code now (lost {A = Unit {0}} (pc + length ce + length cp + 1) ws) (Shows free' (x ∷ kept)) (large_stored (bytes_of p a.kind) free' (pc + length ce + length cp) line (x ∷ kept) ws spot l.place_is (here_at free) v s3 m3 l.size_is l.is put has_k)
-      (λ _ t y sh' _. ends.stays code now tt t y (no_longer free free' x kept t y refl sh'))))))
+      (ends.and_leads code now (lost {A = Unit {0}} (pc + length ce + length cp + 1) ws) (Shows free' (x ∷ kept)) (stores.large_stored p fine small is_there W first R code now base tables room reached k0 ks r own ar own_there (bytes_of p a.kind) free' (pc + length ce + length cp) line (x ∷ kept) ws spot l.place_is (here_at free) v s3 m3 l.size_is l.is put has_k)
+      (λ _ t y sh' _. ends.stays code now tt t y (stores.no_longer p fine small is_there W first R code now base tables room reached k0 ks r own ar own_there free free' x kept t y refl sh'))))))
 
   -- of what stands at a place, where finding the target changes nothing
   placed_assigned : (line : ℕ) (a : Note) (q : Root Note) (ss : Selectors Note) (e : Expression Note) → is_large a.kind ≡ true → is_source e ≡ true → way_is_quiet ss ≡ true → (free pc : ℕ) (kept : List Kept) (ws : List Word) (s : State) (m : Memory) → assigned_top plan free ss e true ≤ k0.long → StatementIs p k0.scope (Assign line a q ss e) → AllOf (statement_uses p (Assign line a q ss e)) → IsFair s → Now_shown free kept s m
@@ -587,28 +481,28 @@ module _ (p : Program) (fine : ProgramIs p) (small : Small p) (is_there : ℕ �
       let ue = typing.back _ (root_uses q ++ along_uses p (root_note q).kind ss) _ uo in
       let same : kind e ≡ a.kind = widens_large p (kind e) a.kind h.3 large in
       let large_e : is_large (kind e) ≡ true = ap is_large same ∙ large in
-      let long_k : length ck ≡ 1 = ap length (keep_large a.kind line large) in
+      let long_k : length ck ≡ 1 = ap length (stores.keep_large p fine small is_there W first R code now base tables room reached k0 ks r own ar own_there a.kind line large) in
       let x = source_run e free pc line kept ws s m source large_e tops.0 h.2 ue fair sh (ends.front code now r pc ce _ has) in
       let rest : Value → State → Outcome (Unit {0}) = λ v t. (place p (enter p room) q ss >>= λ spot. write spot v) line t in
       let out = pc + length ce + length cp + 1 in
-      lost_by out _ ws (omega (arith, length-append ce (cp ++ ck), length-append cp ck, long_k))
+      stores.lost_by p fine small is_there W first R code now base tables room reached k0 ks r own ar own_there out _ ws (omega (arith, length-append ce (cp ++ ck), length-append cp ck, long_k))
       (ends.same_outcome code now (ap (λ o. go_on o rest) x.value_is ∙ go_on_again (source_place e line s) (λ spot u. read spot line u) rest)
       (bind {m = source_place e} {line = line} (lands (pc + length ce) (λ y. spot_word p base ls y ∷ ws)) (Shows free kept) x.found x.typed fair (λ from s2 m2 sh2 _ is2 fair2.
-      let lf = large_place line (kind e) from large_e is2 in
+      let lf = stores.large_place p fine small is_there W first R code now base tables room reached k0 ks r own ar own_there line (kind e) from large_e is2 in
       let before = place_bytes p base is_there now (kept_at free kept) from lf.place_is m2 s2 sh2 lf.is (runs.within_is p fine small is_there W first R code now base tables room reached k0 ks r own ar line own_there from (kind e) is2) in
       ends.same_outcome code now (ap (λ o. go_on o rest) (before.reads line))
       (bind {m = place p (enter p room) q ss} {line = line} (lands (pc + length ce + length cp) (λ y. spot_word p base ls y ∷ (spot_word p base ls from ∷ ws))) (Shows free kept)
       (runs.place_run p fine small is_there W first R code now base tables room reached k0 ks r own ar line own_there (other_calls line) q ss free (pc + length ce) kept (spot_word p base ls from ∷ ws) s2 m2 tops.1 h.0.0 h.0.1 up fair2 sh2 (ends.front code now r (pc + length ce) cp _ has_p))
       (runs.place_typed p fine small is_there W first R code now base tables room reached k0 ks r own ar line own_there q ss a.kind h.0.0 h.0.1 h.0.2 up) fair2 (λ spot s3 m3 sh3 done3 is3 fair3.
-      let l = large_place line a.kind spot large is3 in
+      let l = stores.large_place p fine small is_there W first R code now base tables room reached k0 ks r own ar own_there line a.kind spot large is3 in
       let shape_is : lf.place_is.shape ≡ l.place_is.shape = shape_laws.once p a.kind lf.place_is.shape l.place_is.shape (subst (λ y. Unfolds p y lf.place_is.shape) same lf.unfolds) l.unfolds in
       let put = copy_place p base is_there now (kept_at free kept) from spot lf.place_is l.place_is m3 s3 sh3 lf.is l.is (runs.within_is p fine small is_there W first R code now base tables room reached k0 ks r own ar line own_there from (kind e) is2) (runs.within_is p fine small is_there W first R code now base tables room reached k0 ks r own ar line own_there spot a.kind is3) shape_is in
       let still : s2 ≡ s3 = (place_quiet p (enter p room) q ss quiet).by line s2 spot s3 done3 in
       let same_value_is : before.value ≡ put.0.value = done_value (sym (before.reads line) ∙ (ap (λ t. read from line t) still ∙ put.0.reads line)) in
-      let has_k = subst (Stands code now r (pc + length ce + length cp)) (keep_large a.kind line large) (ends.back code now r (pc + length ce) cp _ has_p) in
+      let has_k = subst (Stands code now r (pc + length ce + length cp)) (stores.keep_large p fine small is_there W first R code now base tables room reached k0 ks r own ar own_there a.kind line large) (ends.back code now r (pc + length ce) cp _ has_p) in
       subst (λ (y : Option Located). From (cfg (pc + length ce + length cp) (spot_word p base ls spot ∷ (word_at p base y ∷ ws)) s3 m3) (lost {A = Unit {0}} out ws) (Shows free kept) (write spot before.value line s3)) (sym lf.is)
       (subst (λ v. From (cfg (pc + length ce + length cp) (spot_word p base ls spot ∷ (word.Address lf.place_is.address ∷ ws)) s3 m3) (lost {A = Unit {0}} out ws) (Shows free kept) (write spot v line s3)) (sym same_value_is)
-      (large_stored (bytes_of p a.kind) free (pc + length ce + length cp) line kept ws spot l.place_is lf.place_is.address put.0.value s3 m3 l.size_is l.is put.1 has_k)))))))
+      (stores.large_stored p fine small is_there W first R code now base tables room reached k0 ks r own ar own_there (bytes_of p a.kind) free (pc + length ce + length cp) line kept ws spot l.place_is lf.place_is.address put.0.value s3 m3 l.size_is l.is put.1 has_k)))))))
 
   pub both_true : (a b : Bool) → (a && b) ≡ true → (a ≡ true) × (b ≡ true)
   both_true true true e = (refl, refl)
@@ -1253,7 +1147,7 @@ module _ (p : Program) (fine : ProgramIs p) (small : Small p) (is_there : ℕ �
         (runs.place_typed p fine small is_there W first R code now base tables room reached k0 ks r own ar line own_there q ss a.kind h.0.0 h.0.1 h.0.2 up) fair2 (λ spot s3 m3 sh3 _ is3 fair3.
         let y = path_is p F a.kind w (held_path a.kind h.1) is2 in
         subst (λ z. From (cfg (at + 1 + length cp) (spot_word p base ls spot ∷ (value_word p base (here_at free) z ∷ ws)) s3 m3) (lost {A = Unit {0}} (at + 1 + length cp + 1) ws) (Shows free kept) (write spot z line s3)) (sym y.1)
-        (reference_stored a.kind y.0 free (at + 1 + length cp) line kept ws spot s3 m3 h.1 (instances p base is_there now a.kind y.0 y.2) is3 sh3 (ends.back code now r (at + 1) cp _ has_t.1)))))
+        (stores.reference_stored p fine small is_there W first R code now base tables room reached k0 ks r own ar own_there a.kind y.0 free (at + 1 + length cp) line kept ws spot s3 m3 h.1 (instances p base is_there now a.kind y.0 y.2) is3 sh3 (ends.back code now r (at + 1) cp _ has_t.1)))))
       where
         held_names : (t : StType) (o : Option Path) → Held p t o → (x : Path) → o ≡ Some x → Names p x t
         held_names t None k x y = absurd (none y)
@@ -1351,7 +1245,7 @@ module _ (p : Program) (fine : ProgramIs p) (small : Small p) (is_there : ℕ �
         (runs.named_run p fine small is_there W first R code now base tables room reached k0 ks r own ar line own_there a.target a.kind (free + 16) at5 bs (word.Number z1.0 ∷ ws) s5 m6 h.0 fair5 sh6 (ends.front code now r at5 cp _ has_l.1.1)) (typing.named_obeys p fine F W first first R (enter p room) reached k0.scope (scopes ks) a.target a.kind h.0 un) fair5 (λ spot s7 m7 sh7 _ found fair7.
         let l = runs.lies p fine small is_there W first R code now base tables room reached k0 ks r own ar line own_there spot a.kind found.0 in
         bind {m = write spot (number z1.0)} {line = line} (lost {A = Unit {0}} at6 ws) (Shows (free + 16) bs)
-        (number_stored e z1.0 a.kind (free + 16) (at5 + length cp) line bs ws spot s7 m7 found.0 (runs.number_shape p fine small is_there W first R code now base tables room reached k0 ks r own ar line own_there l.place.shape a.kind e is l.meets) z1.2 sh7 (has_s.0, tt))
+        (stores.number_stored p fine small is_there W first R code now base tables room reached k0 ks r own ar own_there e z1.0 a.kind (free + 16) (at5 + length cp) line bs ws spot s7 m7 found.0 (runs.number_shape p fine small is_there W first R code now base tables room reached k0 ks r own ar line own_there l.place.shape a.kind e is l.meets) z1.2 sh7 (has_s.0, tt))
         (typing.write_plain p fine F W first first R (enter p room) reached k0.scope (scopes ks) a.kind spot (number z1.0) (subst IsNoInstance (sym is) tt) found.0 (found.1 owns) (subst (λ y. OfKind p F y (number z1.0)) (sym is) (Elementary e, within_bound p (type.Elementary e) (Elementary e) (elementary_shape p e), z1.2))) fair7 (λ _ s8 m8 sh8 _ _ fair8.
         ends.and_leads code now (flows to out ws) (Shows (free + 16) bs)
         (count_run a.target a.kind e ek sk is h.0 un free k4.bs k6.bs kept z2.0 z3 k4.long k6.long k4.number_there k6.number_there line i5.fits owns body to cb at6 back_n ws
@@ -1362,7 +1256,7 @@ module _ (p : Program) (fine : ProgramIs p) (small : Small p) (is_there : ℕ �
         (omega arith)
         (λ s9 m9 fair9 sh9. runs_body inner (at6 + 1 + length ct + 1) bs s9 m9 fair9 sh9 t4.1 ub (ends.front code now r (at6 + 1 + length ct + 1) cb c8 has_j.1))
         s8 m8 fair8 sh8)
-        (λ f t y i _. ends.stays code now f t y (no_longer free (free + 8) x1 kept t y refl (no_longer (free + 8) (free + 16) (record { from = free + 8; bytes = k6.bs }) (x1 ∷ kept) t y refl i))))))))))))))
+        (λ f t y i _. ends.stays code now f t y (stores.no_longer p fine small is_there W first R code now base tables room reached k0 ks r own ar own_there free (free + 8) x1 kept t y refl (stores.no_longer p fine small is_there W first R code now base tables room reached k0 ks r own ar own_there (free + 8) (free + 16) (record { from = free + 8; bytes = k6.bs }) (x1 ∷ kept) t y refl i))))))))))))))
 
     -- ---- statements, over the calls in them
 

@@ -30,7 +30,7 @@ use Rattle.code_rules.specs.Places.{locals_end, result_place}
 use Rattle.code_rules.specs.Bodies.{called_code}
 use Rattle.code_rules.specs.Tops.{effects_top}
 use Rattle.shown_memory.specs.Shown.{Kept, Open, scopes, layouts, Located, located, Shown}
-use Rattle.shown_memory.specs.Passing.{BlockIs, Returned, with_block, ResultPlain}
+use Rattle.shown_memory.specs.Passing.{BlockIs, Returned, with_block, Asks, RoomsAre}
 use Rattle.value_runs.proofs.Ends.{Leads, Stands}
 use Rattle.call_forms.specs.Tables.{place_of_name, signature_names}
 
@@ -57,13 +57,13 @@ module _ (p : Program) (fine : ProgramIs p) (is_there : ℕ → Bool) (W : ℕ �
 
   -- where so many more calls may be open, a call of a routine does what the routine does
   pub record CallRuns (room : ℕ) : Type 0 where
-    pub by : (k : Open) (ks : List Open) (x : Routine) (n : ℕ) (q : Option Path) (own : Option Address) (given : List Given) (block : ℕ) (bytes : List ℕ) (rest : List Kept) (mask line : ℕ) (c : Config) (below : List Word) (s : State)
+    pub by : (k : Open) (ks : List Open) (x : Routine) (n : ℕ) (q : Option Path) (own : Option Address) (given : List Given) (block : ℕ) (bytes : List ℕ) (rest : List Kept) (mask line low : ℕ) (asks : Asks) (c : Config) (below : List Word) (s : State)
         → R x → length x.parameters < result_place → OwnIs p fine (λ r. is_there r ≡ true) W x.class q → GivenAre p fine (λ r. is_there r ≡ true) W (scopes (k ∷ ks)) x.class x.locals given → Alike p fine (λ r. is_there r ≡ true) W first first (scopes (k ∷ ks)) s s
         → Shown p base is_there now (with_block p base k block bytes rest ∷ ks) c.memory s → c.ticks ≡ s.ticks → room + (base + length ks) ≡ limit
-        → CodeOf x n → IsOwn q own → HasOwn x.class q → ResultPlain x mask → BlockIs p base (layouts (k ∷ ks)) x.parameters bytes mask given
+        → CodeOf x n → IsOwn q own → HasOwn x.class q → BlockIs p base (layouts (k ∷ ks)) x (record { space = Locals; index = base + length ks; offset = block }) low x.parameters bytes mask given → RoomsAre p base x (record { space = Locals; index = base + length ks; offset = block }) bytes mask rest asks
         → Leads code now (enters code n own (word.Address (record { space = Locals; index = base + length ks; offset = block }) ∷ []) below line c)
         (λ (f : Frame) t m. record { here = onward c.here; words = below; around = c.around; memory = m; ticks = t.ticks })
-        (λ f t m. Returned p base is_there now k ks block rest x.parameters (length bytes) mask f t m)
+        (λ f t m. Returned p base is_there now k ks block rest x.parameters (length bytes) asks mask f t m)
         (enter p room x q given line s)
 
   -- the interface has a method of this name

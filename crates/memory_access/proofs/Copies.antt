@@ -59,13 +59,13 @@ module _ (p : Program) (base : ℕ) (is_held : ℕ → Bool) (now : ℕ) where
   -- ---- a place as a target
 
   -- what is put somewhere is spelled there
-  spelled_there : (sh : Shape) (v : Value) (image bytes : List ℕ) (i : ℕ) → length bytes ≡ size sh → i + size sh ≤ length image → Spells (region_shape p) sh v bytes 0 → Spells (region_shape p) sh v (replaced image i bytes) i
+  pub spelled_there : (sh : Shape) (v : Value) (image bytes : List ℕ) (i : ℕ) → length bytes ≡ size sh → i + size sh ≤ length image → Spells (region_shape p) sh v bytes 0 → Spells (region_shape p) sh v (replaced image i bytes) i
   spelled_there sh v image bytes i long fit spells =
       let same : slice_range (replaced image i bytes) i (i + length bytes) ≡ bytes = range_replaced image bytes i (omega (arith, long, fit)) in
       let whole : slice_range bytes 0 (0 + size sh) ≡ bytes = whole_range bytes (size sh) long in
       (spelling_laws (region_shape p)).anywhere sh v bytes (replaced image i bytes) 0 i (ap (λ n. slice_range (replaced image i bytes) i (i + n)) (sym long) ∙ (same ∙ sym whole)) spells
 
-  keeps_there : (image bytes : List ℕ) (i n : ℕ) → length bytes ≡ n → i + n ≤ length image → Keeps image (replaced image i bytes) i n
+  pub keeps_there : (image bytes : List ℕ) (i n : ℕ) → length bytes ≡ n → i + n ≤ length image → Keeps image (replaced image i bytes) i n
   keeps_there image bytes i n long fit = subst (Keeps image (replaced image i bytes) i) long (keeps_part image bytes i (omega (arith, long, fit)))
 
   pub place_put : (ks : List Open) (spot : Spot) (l : Located) (v : Value) (bytes : List ℕ) (m : Memory) (s : State) → Shown p base is_held now ks m s → located p base (layouts ks) spot ≡ Some l → Within p base is_held now spot → length bytes ≡ size l.shape → Spells (region_shape p) l.shape v bytes 0 → PlacePut p base is_held now ks spot l v bytes m s

@@ -2,7 +2,6 @@
 use Rattle.std.proofs.Common.{◌≡◌, ◌⊎◌, ◌<◌, ℕ, zero, suc, ℤ, pos, Bool, true, false, List, [], ◌∷◌, length, Option, Some, None, refl, sym, ap, ◌∙◌, subst, arith, inl, inr, ⊎_elim}
 use Rattle.std.specs.Prelude.{if◌then◌else◌, ◌||◌, slice_get, nat_eq, nat_lt}
 use Rattle.std.proofs.lemmas.Int.{ints}
-use Rattle.st_types.specs.declared.elem.Elem.{Elem}
 use Rattle.st_types.specs.Range.{Fits}
 use Rattle.st_types.specs.declared.st_type.StType.{StType, out-StType, roll-StType, roll-out-StType}
 use Rattle.st_types.specs.declared.st_type.StType.TheOpen.{StType-F}
@@ -35,6 +34,7 @@ use Rattle.mem_layout.specs.store_bytes.Spells.{Spells}
 use Rattle.mem_layout.specs.store_bytes.StoreLaws.{IsNumber}
 use Rattle.code_rules.specs.Code.{is_held}
 use Rattle.code_rules.specs.Places.{is_large}
+use Rattle.shown_memory.specs.Passing.{IsWord}
 use Rattle.shown_memory.specs.Shown.{value_word, path_word, word_at, Small}
 use Rattle.memory_access.proofs.Likes.{InstanceAt, instance_at}
 
@@ -132,7 +132,7 @@ operation_small p operator.Or t u w h = (ap is_large h.3, ap is_large h.4, ap is
 operation_small p operator.Xor t u w h = (ap is_large h.3, ap is_large h.4, ap is_large h.5)
 
 module _ (p : Program) where
-  outside : (t : StType) (o : StType-F StType) → out-StType t ≡ o → t ≡ roll-StType o
+  pub outside : (t : StType) (o : StType-F StType) → out-StType t ≡ o → t ≡ roll-StType o
   outside t o q = sym (roll-out-StType t) ∙ ap roll-StType q
 
   pub large_row : (t : StType) (sh : Shape) → is_large t ≡ true → Unfolds p t sh → IsRow sh
@@ -165,7 +165,7 @@ module _ (p : Program) where
 
   -- ---- numbers
 
-  enumeration_is : (n : ℕ) (sh : Shape) → Unfolds p (type.Enumeration n) sh → (x : TypeEntry) × (values : List (List ℕ)) × (slice_get p.types n ≡ Some x) × (values_of x.body ≡ Some values) × (sh ≡ Enumeration x.name values)
+  pub enumeration_is : (n : ℕ) (sh : Shape) → Unfolds p (type.Enumeration n) sh → (x : TypeEntry) × (values : List (List ℕ)) × (slice_get p.types n ≡ Some x) × (values_of x.body ≡ Some values) × (sh ≡ Enumeration x.name values)
   enumeration_is n sh u =
       let e : simple_shape p (StType-F.Enumeration n) ≡ Some sh = subst (λ o. shape_by p (shape_within p u.depth) o ≡ Some sh) (type.outs-Enumeration n) ((one_deeper p u.depth).by (type.Enumeration n) sh u.by) in
       let a = then_some (slice_get p.types n) _ sh e in
@@ -179,12 +179,6 @@ module _ (p : Program) where
       let same : sh ≡ a.0 = let e = a.2 in cc in
       let o = enumeration_is n a.0 a.1 in
       subst (λ x. IsNumber x elem.Udint) (sym (same ∙ o.4)) refl
-
-  -- the kind of the number that a value of a numeric type is
-  abbrev pub KindIs : StType → Elem → Type 0
-  KindIs (type.Elementary e) k = e ≡ k
-  KindIs (type.Enumeration n) k = k ≡ elem.Udint
-  KindIs _ k = ⊥
 
   module _ (F : ℕ → Type 0) where
     pub numeric_value : (t : StType) (v : Value) → IsNumeric t → OfKind p F t v → (z : ℤ) × (v ≡ number z)
@@ -224,6 +218,14 @@ module _ (p : Program) where
       by (Array low n x) r s = ap (value_word p base a) s.1
       by (Structure name fs) r s = ap (value_word p base a) s.1
       by x r s = absurd r
+
+  pub large_no_word : (t : StType) (sh : Shape) (v : Value) (bytes : List ℕ) (i : ℕ) → is_large t ≡ true → Unfolds p t sh → Spells (region_shape p) sh v bytes i → IsWord v → ⊥
+  large_no_word t sh v bytes i large u s = by sh (large_row t sh large u) s
+    where
+      by : (x : Shape) → IsRow x → Spells (region_shape p) x v bytes i → IsWord v → ⊥
+      by (Array low n x) r s h = subst IsWord s.1 h
+      by (Structure name fs) r s h = subst IsWord s.1 h
+      by x r s h = absurd r
 
   module _ (base : ℕ) (is_there : ℕ → Bool) (now : ℕ) where
     -- what is held leads to an instance

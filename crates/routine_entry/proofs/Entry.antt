@@ -4,6 +4,14 @@ use Rattle.std.specs.Prelude.{if◌then◌else◌, slice_get, slice_set, slice_r
 use Rattle.std.proofs.lemmas.Bool.{lt-ltb, eqb-true, eq-eqb}
 use Rattle.std.proofs.lemmas.List.{length-replicate}
 use Rattle.std.proofs.Math.Nat.{suc-mul}
+use Rattle.mem_image.specs.Image.{replaced, written, bytes_of, value_at as number_at}
+use Rattle.mem_image.proofs.PartLaws.{length-range, length-replaced, range_of_range, range_of_zeros}
+use Rattle.stack_code.specs.Memory.{image_at, copy as copy_bytes, Memory, read as read_bytes, write as write_bytes, reference_of, moved, kept}
+use Rattle.memory_access.proofs.Copies.{keeps_there, spelled_there}
+use Rattle.code_rules.specs.Places.{bytes_of as bytes_of_type, is_large, kind_in, width, size_in, local_offset, locals_end, of_parameter, of_mask, result_place, field_offset}
+use Rattle.memory_access.proofs.NumberKinds.{KindIs}
+use Rattle.shown_memory.proofs.Locals.{spelled_number, number_size, end_above, slot_moved, slot_given, offset_above, offset_below}
+use Rattle.mem_layout.specs.store_bytes.StoreLaws.{IsNumber, Keeps as KeepsBytes, IsAddress}
 use Rattle.st_types.specs.declared.elem.Elem.{Elem}
 use Rattle.st_types.specs.Elem.{bytes, bits}
 use Rattle.st_types.specs.Range.{Fits}
@@ -12,9 +20,7 @@ use Rattle.st_types.specs.declared.elem.Elem.TheVariants as elem
 use Rattle.st_types.specs.declared.st_type.StType.TheVariants as type
 use Rattle.plc_num.specs.Wrapping.{wrapped}
 use Rattle.plc_num.proofs.WrappingLaws.{wrapped-fits, wrapped-wraps, wrapped-apart, Apart, apart_by, apart_coarser}
-use Rattle.mem_image.specs.Image.{written, bytes_of, value_at as number_at}
 use Rattle.mem_image.specs.Laws.{AreApart}
-use Rattle.mem_image.proofs.PartLaws.{range_of_range, range_of_zeros}
 use Rattle.st_tree.specs.declared.path.Path.{Path}
 use Rattle.st_tree.specs.declared.path.Step.TheVariants as step
 use Rattle.st_values.specs.Program.{Variable, Recipient, to_local, to_variable, Parameter, Routine, Program, class_variables}
@@ -30,25 +36,21 @@ use Rattle.stack_code.specs.declared.memory.Space.TheVariants.{Locals}
 use Rattle.stack_code.specs.declared.memory.Address.{Address}
 use Rattle.stack_code.specs.declared.memory.Word.{Word}
 use Rattle.stack_code.specs.declared.code.MachineCode.{MachineCode}
-use Rattle.stack_code.specs.Memory.{Memory, read as read_bytes, write as write_bytes, reference_of, moved, kept}
 use Rattle.stack_code.specs.Steps.{Goes, ◌>>=◌ as ◌>>=step◌, some_or_stuck, stuck}
 use Rattle.stack_code.specs.Machine.{Config, jumps, on, reference as reference_in}
 use Rattle.stack_code.specs.declared.memory.Word.TheVariants as word
 use Rattle.stack_code.specs.declared.op.Op.TheVariants as op
 use Rattle.mem_layout.specs.store_bytes.Place.{size, gap, alignment, greatest, ending}
 use Rattle.mem_layout.specs.store_bytes.Spells.{Holds, Spells, Blank, count, EachSpells, Refers, Shows}
-use Rattle.mem_layout.specs.store_bytes.StoreLaws.{Keeps as KeepsBytes, IsAddress}
 use Rattle.mem_layout.proofs.store_bytes.Moves.{kept_same, holds_moved, moved as spells_moved, ending_above}
 use Rattle.mem_layout.proofs.store_bytes.Leaves.{holds_written, value_is, keeps_written, length-written}
 use Rattle.code_cells.specs.declared.cell.Cell.{Cell}
 use Rattle.code_cells.specs.declared.cell.Cell.TheVariants.{Does as does}
-use Rattle.code_rules.specs.Places.{kind_in, width, size_in, local_offset, locals_end, of_parameter, of_mask, result_place, field_offset}
 use Rattle.code_rules.specs.Bodies.{number_begins, value_begins, shape_begins, locals_begin, each_begins, fields_begin, in_block, guarded, parameter_in, parameters_in, argument_in, in_out_in, local_at, variable_at, own_kind}
 use Rattle.code_rules.specs.Code.{class_of, bit}
 use Rattle.code_rules.specs.Plan.{Tables}
 use Rattle.code_rules.specs.Routines.{called_plan}
 use Rattle.shown_memory.specs.Shown.{Layout, SlotShown, SlotsShown, path_word, word_at, kept_number, Located, located}
-use Rattle.shown_memory.proofs.Locals.{end_above, slot_moved, slot_given, offset_above, offset_below}
 use Rattle.shown_memory.specs.Passing.{has_bit, AreOnce, IsGiven, recipient}
 use Rattle.shown_memory.proofs.Geometry.{decoded_local}
 use Rattle.memory_access.proofs.Narrow.{turns_of}
@@ -401,7 +403,7 @@ module _ (p : Program) (code : MachineCode) (now : ℕ) (n : ℕ) (own : Option 
         (ends.goes_leads code now (moved (record { space = Locals; index = base + d; offset = block }) at) (record { space = Locals; index = base + d; offset = block + at }) _ (ap (λ t. if t then Goes (record { space = Locals; index = base + d; offset = block + at }) else stuck) (lt-ltb (block + at) 4294967296 (omega (arith, low, fit)))) h)))))
 
     -- what is kept there
-    block_read : (d block : ℕ) (bs image : List ℕ) (m : Memory) (at : ℕ) (z : ℤ) → BlockThere m d block bs → at + 8 ≤ length bs → Holds elem.Ulint z bs at → read_bytes elem.Ulint (with_last m image) (record { space = Locals; index = d; offset = block + at }) ≡ Goes z
+    pub block_read : (d block : ℕ) (bs image : List ℕ) (m : Memory) (at : ℕ) (z : ℤ) → BlockThere m d block bs → at + 8 ≤ length bs → Holds elem.Ulint z bs at → read_bytes elem.Ulint (with_last m image) (record { space = Locals; index = d; offset = block + at }) ≡ Goes z
     block_read d block bs image m at z b fit held =
         let inside = b.inside in
         let number_is : number_at elem.Ulint b.image (block + at) ≡ z = value_is elem.Ulint z b.image (block + at) (record { fits = held.fits; stands = sym (range_of_range b.image block (length bs) at 8 fit) ∙ (ap (λ i. slice_range i at (at + 8)) b.stands ∙ held.stands) }) in
@@ -455,6 +457,30 @@ module _ (p : Program) (code : MachineCode) (now : ℕ) (n : ℕ) (own : Option 
         (ends.goes_leads code now (kept w) z _ keeps
         (ends.goes_leads code now (write_bytes elem.Ulint (with_last m image) (at_last m off) z) (with_last m (written elem.Ulint image off z)) _ (last_write elem.Ulint m image off z room)
         (same_pc (with_last m (written elem.Ulint image off z)) under (pc + 1 + 1 + 1 + 1 + 1 + 1) (pc + 6) (omega arith) h)))))))))
+
+    -- so many bytes that stand behind the block to the locals
+    copied_next : (base d block : ℕ) (bs image : List ℕ) (m : Memory) (at far off size_is pc : ℕ) → BlockThere m (base + d) block bs → Holds elem.Ulint (pos (kept_number p base (record { space = Locals; index = base + d; offset = block }))) image 0 → 8 ≤ length image
+        → at + 8 ≤ length bs → Holds elem.Ulint (pos (kept_number p base (record { space = Locals; index = base + d; offset = block + far }))) bs at → reference_of (pos (kept_number p base (record { space = Locals; index = base + d; offset = block + far }))) ≡ word.Address (record { space = Locals; index = base + d; offset = block + far })
+        → far + size_is ≤ length bs → off + size_is ≤ length image → Stands code now n pc (in_block line at ++ (does op.LoadRef line ∷ (does (op.Local off) line ∷ (does (op.Copy size_is) line ∷ []))))
+        → Next after shown o (pc + 6) under (with_last m (replaced image off (slice_range bs far (far + size_is)))) → Next after shown o pc under (with_last m image)
+    copied_next base d block bs image m at far off size_is pc b own_word long fit given decodes inside room has h =
+        let from : Address = record { space = Locals; index = base + d; offset = block + far } in
+        let z : ℤ = pos (kept_number p base from) in
+        let whole = b.inside in
+        let bytes_are : slice_range b.image (block + far) (block + far + size_is) ≡ slice_range bs far (far + size_is) = sym (range_of_range b.image block (length bs) far size_is inside) ∙ ap (λ l. slice_range l far (far + size_is)) b.stands in
+        let copies : copy_bytes size_is (with_last m image) from (at_last m off) ≡ Goes (with_last m (replaced image off (slice_range bs far (far + size_is)))) =
+        ap (λ i. i >>=step λ here. image_at (with_last m image) (at_last m off) size_is >>=step λ there. Goes (record (with_last m image) { locals = slice_set (m.locals ++ image ∷ []) (length m.locals) (replaced there off (slice_range here (block + far) (block + far + size_is))) })) (local_there (with_last m image) (base + d) (block + far) size_is b.image (front_get m.locals (image ∷ []) (base + d) b.image b.there) (omega (arith, whole, inside)))
+        ∙ (ap (λ i. i >>=step λ there. Goes (record (with_last m image) { locals = slice_set (m.locals ++ image ∷ []) (length m.locals) (replaced there off (slice_range b.image (block + far) (block + far + size_is))) })) (local_there (with_last m image) (length m.locals) off size_is image (last_get m.locals image) room)
+        ∙ (ap (λ y. Goes (record (with_last m image) { locals = slice_set (m.locals ++ image ∷ []) (length m.locals) (replaced image off y) })) bytes_are
+        ∙ ap (λ l. Goes (record m { locals = l })) (last_set m.locals image (replaced image off (slice_range bs far (far + size_is)))))) in
+        block_next base d block bs image m at pc under b own_word long (omega (arith, fit)) (has.0, (has.1.0, (has.1.1.0, tt)))
+        (ends.step_leads code now (op.LoadRef, line) has.1.1.1.0
+        (ends.goes_leads code now (read_bytes elem.Ulint (with_last m image) (record { space = Locals; index = base + d; offset = block + at })) z _ (block_read (base + d) block bs image m at z b fit given)
+        (subst (λ w. Next after shown o (pc + 1 + 1 + 1 + 1) (w ∷ under) (with_last m image)) (sym decodes)
+        (local_next m image off (pc + 1 + 1 + 1 + 1) (word.Address from ∷ under) (has.1.1.1.1.0, tt)
+        (ends.step_leads code now (op.Copy size_is, line) has.1.1.1.1.1.0
+        (ends.goes_leads code now (copy_bytes size_is (with_last m image) from (at_last m off)) (with_last m (replaced image off (slice_range bs far (far + size_is)))) _ copies
+        (same_pc (with_last m (replaced image off (slice_range bs far (far + size_is)))) under (pc + 1 + 1 + 1 + 1 + 1 + 1) (pc + 6) (omega arith) h)))))))
 
 -- ---- what is given, and to which
 
@@ -558,18 +584,14 @@ module _ (p : Program) (x : Routine) where
   abbrev pub ParametersApart : Type 0
   ParametersApart = (i j : ℕ) (q r : Parameter) → slice_get x.parameters i ≡ Some q → slice_get x.parameters j ≡ Some r → q.to ≡ r.to → i ≡ j
 
-  -- its locals, inputs, outputs and result are numbers, references or in-outs
-  pub record Plain : Type 0 where
-    pub starts : AllStart p x.locals
-    -- inputs of a block too
-    pub variables : (i k : ℕ) (q : Parameter) (v : Variable) → slice_get x.parameters i ≡ Some q → q.to ≡ to_variable k → recipient_variable p x (to_variable k) ≡ Some v → ((e : Elem) × (v.kind ≡ type.Elementary e)) ⊎ IsHeld v.kind
-    pub inputs : (i k : ℕ) (q : Parameter) (v : Variable) → slice_get x.parameters i ≡ Some q → q.to ≡ to_local k → slice_get x.locals k ≡ Some v → is_in_out v.sort ≡ false → ((e : Elem) × (v.kind ≡ type.Elementary e)) ⊎ IsHeld v.kind
-    pub numbers : (i k : ℕ) (q : Parameter) (v : Variable) → slice_get x.parameters i ≡ Some q → is_output q.sort ≡ true → q.to ≡ to_local k → slice_get x.locals k ≡ Some v → is_in_out v.sort ≡ false → ((e : Elem) × (v.kind ≡ type.Elementary e)) ⊎ IsHeld v.kind
-
-module _ (p : Program) (base : ℕ) (x : Routine) (ls : List Layout) (bs : List ℕ) where
+module _ (p : Program) (base : ℕ) (x : Routine) (ls : List Layout) (start : Address) (bs : List ℕ) where
   -- a number
   abbrev pub NumberGiven : ℕ → Variable → Value → Type 0
-  NumberGiven at v w = (e : Elem) × (z : ℤ) × (v.kind ≡ type.Elementary e) × (shape_of p v.kind ≡ Some (Elementary e)) × (w ≡ number z) × Fits e z × Holds elem.Ulint (wrapped elem.Ulint z) bs at
+  NumberGiven at v w = (e : Elem) × (z : ℤ) × KindIs v.kind e × ((sh : Shape) × (shape_of p v.kind ≡ Some sh) × IsNumber sh e) × (w ≡ number z) × Fits e z × Holds elem.Ulint (wrapped elem.Ulint z) bs at
+
+  -- the word of a number
+  abbrev pub NumberWord : ℕ → Variable → Value → Type 0
+  NumberWord at v w = (e : Elem) × (z : ℤ) × KindIs v.kind e × (w ≡ number z) × Fits e z × Holds elem.Ulint (wrapped elem.Ulint z) bs at
 
   -- the word of a reference or an interface value
   pub record HeldWord (at : ℕ) (v : Variable) (w : Value) : Type 0 where
@@ -596,9 +618,20 @@ module _ (p : Program) (base : ℕ) (x : Routine) (ls : List Layout) (bs : List 
     pub keeps : kept (path_word p base path) ≡ Goes (pos word_is)
     pub stands : Holds elem.Ulint (pos word_is) bs at
 
+  -- a large value, and where it stands behind the block
+  pub record LargeIn (at : ℕ) (v : Variable) (w : Value) : Type 0 where
+    pub far : ℕ
+    pub shape : Shape
+    pub large : is_large v.kind ≡ true
+    pub has_shape : shape_of p v.kind ≡ Some shape
+    pub inside : far + size shape ≤ length bs
+    pub spells : Spells (region_shape p) shape w (slice_range bs far (far + size shape)) 0
+    pub decodes : reference_of (pos (kept_number p base (record start { offset = start.offset + far }))) ≡ word.Address (record start { offset = start.offset + far })
+    pub stands : Holds elem.Ulint (pos (kept_number p base (record start { offset = start.offset + far }))) bs at
+
   -- a number, a reference, or the place of an in-out, and the word for it in the block
   abbrev pub SlotGiven : ℕ → Variable → Slot → Type 0
-  SlotGiven at v (holds w) = (is_in_out v.sort ≡ false) × (NumberGiven at v w ⊎ HeldGiven at v w)
+  SlotGiven at v (holds w) = (is_in_out v.sort ≡ false) × (NumberGiven at v w ⊎ (HeldGiven at v w ⊎ LargeIn at v w))
   SlotGiven at v (bound spot) = (is_in_out v.sort ≡ true) × ((l : Located) × (located p base ls spot ≡ Some l) × KeptAddress p base l.address × Holds elem.Ulint (pos (kept_number p base l.address)) bs at)
   SlotGiven at v unbound = (is_in_out v.sort ≡ true) × Holds elem.Ulint (pos 0) bs at
 
@@ -628,7 +661,7 @@ module _ (p : Program) (base : ℕ) (x : Routine) (ls : List Layout) (bs : List 
     pub value : Value
     pub is : g ≡ for_variable number_is value
     pub inside : of_parameter index + 8 ≤ length bs
-    pub word : NumberGiven (of_parameter index) variable value ⊎ HeldWord (of_parameter index) variable value
+    pub word : NumberWord (of_parameter index) variable value ⊎ (HeldWord (of_parameter index) variable value ⊎ LargeIn (of_parameter index) variable value)
 
   pub data ForOne (g : Given) : Type 0 where
     one_local : ForLocal g → ForOne g
@@ -678,12 +711,45 @@ module _ (p : Program) (base : ℕ) (x : Routine) (ls : List Layout) (bs : List 
       by (Some l) = refl
 
   module _ (tables : Tables) where
-    at_number : (v : Variable) (e : Elem) (q : Parameter) (at k : ℕ) → q.to ≡ to_local k → is_in_out q.sort ≡ false → slice_get x.locals k ≡ Some v → v.kind ≡ type.Elementary e
+    number_in : (t : StType) (e : Elem) (at : ℕ) (place : List Cell) → KindIs t e → argument_in (called_plan p tables x) x.line at t place ≡ in_block x.line at ++ (does (op.Load elem.Ulint) x.line ∷ (place ++ does (op.Store e) x.line ∷ []))
+    number_in (type.Elementary k) e at place h = ap (λ k. in_block x.line at ++ (does (op.Load elem.Ulint) x.line ∷ (place ++ does (op.Store k) x.line ∷ []))) h
+    number_in (type.Enumeration n) e at place h = ap (λ k. in_block x.line at ++ (does (op.Load elem.Ulint) x.line ∷ (place ++ does (op.Store k) x.line ∷ []))) (sym h)
+    number_in t e at place h = absurd h
+
+    at_number : (v : Variable) (e : Elem) (q : Parameter) (at k : ℕ) → q.to ≡ to_local k → is_in_out q.sort ≡ false → slice_get x.locals k ≡ Some v → KindIs v.kind e
         → parameter_in p (called_plan p tables x) x.line x 8 at q ≡ in_block x.line at ++ (does (op.Load elem.Ulint) x.line ∷ (does (op.Local (local_offset p 8 x.locals k)) x.line ∷ (does (op.Store e) x.line ∷ [])))
     at_number v e q at k to sorted there is =
         let a : parameter_in p (called_plan p tables x) x.line x 8 at q ≡ parameter_in p (called_plan p tables x) x.line x 8 at (record q { to = to_local k }) = ap (λ y. parameter_in p (called_plan p tables x) x.line x 8 at (record q { to = y })) to in
         let b : parameter_in p (called_plan p tables x) x.line x 8 at (record q { to = to_local k }) ≡ argument_in (called_plan p tables x) x.line at (kind_in (slice_get x.locals k)) (local_at p (called_plan p tables x) x.line x 8 k) = ap (λ b. if b then in_out_in x.line at (local_at p (called_plan p tables x) x.line x 8 k) else argument_in (called_plan p tables x) x.line at (kind_in (slice_get x.locals k)) (local_at p (called_plan p tables x) x.line x 8 k)) sorted in
-        a ∙ (b ∙ (ap (λ o. argument_in (called_plan p tables x) x.line at (kind_in o) (local_at p (called_plan p tables x) x.line x 8 k)) there ∙ ap (λ t. argument_in (called_plan p tables x) x.line at t (local_at p (called_plan p tables x) x.line x 8 k)) is))
+        a ∙ (b ∙ (ap (λ o. argument_in (called_plan p tables x) x.line at (kind_in o) (local_at p (called_plan p tables x) x.line x 8 k)) there ∙ number_in v.kind e at (local_at p (called_plan p tables x) x.line x 8 k) is))
+
+    own_kind_is : (k : ℕ) (v : Variable) → recipient_variable p x (to_variable k) ≡ Some v → own_kind p (called_plan p tables x) x.line x 8 k ≡ v.kind
+    own_kind_is k v e = ap (λ o. kind_in o) (by x.class e)
+      where
+        by : (c : Option ℕ) → own_variable p c k ≡ Some v → slice_get (class_variables p (class_of c)) k ≡ Some v
+        by None e = cc
+        by (Some c) e = e
+
+    large_in : (t : StType) (at : ℕ) (place : List Cell) → is_large t ≡ true → argument_in (called_plan p tables x) x.line at t place ≡ in_block x.line at ++ (does op.LoadRef x.line ∷ (place ++ does (op.Copy (bytes_of_type p t)) x.line ∷ []))
+    large_in (type.Elementary e) at place h = cc
+    large_in (type.Enumeration n) at place h = cc
+    large_in (type.Reference c) at place h = cc
+    large_in (type.Interface i) at place h = cc
+    large_in (type.Instance c) at place h = cc
+    large_in t at place h = refl
+
+    at_large : (v : Variable) (q : Parameter) (at k : ℕ) → q.to ≡ to_local k → is_in_out q.sort ≡ false → slice_get x.locals k ≡ Some v → is_large v.kind ≡ true
+        → parameter_in p (called_plan p tables x) x.line x 8 at q ≡ in_block x.line at ++ (does op.LoadRef x.line ∷ (does (op.Local (local_offset p 8 x.locals k)) x.line ∷ (does (op.Copy (bytes_of_type p v.kind)) x.line ∷ [])))
+    at_large v q at k to sorted there large =
+        let a : parameter_in p (called_plan p tables x) x.line x 8 at q ≡ parameter_in p (called_plan p tables x) x.line x 8 at (record q { to = to_local k }) = ap (λ y. parameter_in p (called_plan p tables x) x.line x 8 at (record q { to = y })) to in
+        let b : parameter_in p (called_plan p tables x) x.line x 8 at (record q { to = to_local k }) ≡ argument_in (called_plan p tables x) x.line at (kind_in (slice_get x.locals k)) (local_at p (called_plan p tables x) x.line x 8 k) = ap (λ b. if b then in_out_in x.line at (local_at p (called_plan p tables x) x.line x 8 k) else argument_in (called_plan p tables x) x.line at (kind_in (slice_get x.locals k)) (local_at p (called_plan p tables x) x.line x 8 k)) sorted in
+        a ∙ (b ∙ (ap (λ o. argument_in (called_plan p tables x) x.line at (kind_in o) (local_at p (called_plan p tables x) x.line x 8 k)) there ∙ large_in v.kind at (local_at p (called_plan p tables x) x.line x 8 k) large))
+
+    at_large_variable : (q : Parameter) (v : Variable) (at k : ℕ) → q.to ≡ to_variable k → recipient_variable p x (to_variable k) ≡ Some v → is_large v.kind ≡ true
+        → parameter_in p (called_plan p tables x) x.line x 8 at q ≡ in_block x.line at ++ (does op.LoadRef x.line ∷ (does (op.This (field_offset p (type.Instance (class_of x.class)) k)) x.line ∷ (does (op.Copy (bytes_of_type p v.kind)) x.line ∷ [])))
+    at_large_variable q v at k to there large =
+        let a : parameter_in p (called_plan p tables x) x.line x 8 at q ≡ parameter_in p (called_plan p tables x) x.line x 8 at (record q { to = to_variable k }) = ap (λ y. parameter_in p (called_plan p tables x) x.line x 8 at (record q { to = y })) to in
+        a ∙ (ap (λ t. argument_in (called_plan p tables x) x.line at t (variable_at p (called_plan p tables x) x.line x 8 k)) (own_kind_is k v there) ∙ large_in v.kind at (variable_at p (called_plan p tables x) x.line x 8 k) large)
 
     at_place : (q : Parameter) (at k : ℕ) → q.to ≡ to_local k → is_in_out q.sort ≡ true → parameter_in p (called_plan p tables x) x.line x 8 at q ≡ in_block x.line at ++ (does op.LoadRef x.line ∷ (does (op.Local (local_offset p 8 x.locals k)) x.line ∷ (does op.StoreRef x.line ∷ [])))
     at_place q at k to sorted =
@@ -701,18 +767,11 @@ module _ (p : Program) (base : ℕ) (x : Routine) (ls : List Layout) (bs : List 
         let b : parameter_in p (called_plan p tables x) x.line x 8 at (record q { to = to_local k }) ≡ argument_in (called_plan p tables x) x.line at (kind_in (slice_get x.locals k)) (local_at p (called_plan p tables x) x.line x 8 k) = ap (λ b. if b then in_out_in x.line at (local_at p (called_plan p tables x) x.line x 8 k) else argument_in (called_plan p tables x) x.line at (kind_in (slice_get x.locals k)) (local_at p (called_plan p tables x) x.line x 8 k)) sorted in
         a ∙ (b ∙ (ap (λ o. argument_in (called_plan p tables x) x.line at (kind_in o) (local_at p (called_plan p tables x) x.line x 8 k)) there ∙ held_code v.kind at (local_offset p 8 x.locals k) held))
 
-    own_kind_is : (k : ℕ) (v : Variable) → recipient_variable p x (to_variable k) ≡ Some v → own_kind p (called_plan p tables x) x.line x 8 k ≡ v.kind
-    own_kind_is k v e = ap (λ o. kind_in o) (by x.class e)
-      where
-        by : (c : Option ℕ) → own_variable p c k ≡ Some v → slice_get (class_variables p (class_of c)) k ≡ Some v
-        by None e = cc
-        by (Some c) e = e
-
-    at_variable : (q : Parameter) (v : Variable) (e : Elem) (at k : ℕ) → q.to ≡ to_variable k → recipient_variable p x (to_variable k) ≡ Some v → v.kind ≡ type.Elementary e
+    at_variable : (q : Parameter) (v : Variable) (e : Elem) (at k : ℕ) → q.to ≡ to_variable k → recipient_variable p x (to_variable k) ≡ Some v → KindIs v.kind e
         → parameter_in p (called_plan p tables x) x.line x 8 at q ≡ in_block x.line at ++ (does (op.Load elem.Ulint) x.line ∷ (does (op.This (field_offset p (type.Instance (class_of x.class)) k)) x.line ∷ (does (op.Store e) x.line ∷ [])))
     at_variable q v e at k to there is =
         let a : parameter_in p (called_plan p tables x) x.line x 8 at q ≡ parameter_in p (called_plan p tables x) x.line x 8 at (record q { to = to_variable k }) = ap (λ y. parameter_in p (called_plan p tables x) x.line x 8 at (record q { to = y })) to in
-        a ∙ ap (λ t. argument_in (called_plan p tables x) x.line at t (variable_at p (called_plan p tables x) x.line x 8 k)) (own_kind_is k v there ∙ is)
+        a ∙ (ap (λ t. argument_in (called_plan p tables x) x.line at t (variable_at p (called_plan p tables x) x.line x 8 k)) (own_kind_is k v there) ∙ number_in v.kind e at (variable_at p (called_plan p tables x) x.line x 8 k) is)
 
     held_variable : (t : StType) (at off : ℕ) → IsHeld t → argument_in (called_plan p tables x) x.line at t (does (op.This off) x.line ∷ []) ≡ in_block x.line at ++ (does op.LoadRef x.line ∷ (does (op.This off) x.line ∷ (does op.StoreRef x.line ∷ [])))
     held_variable (type.Reference c) at off h = refl
@@ -739,11 +798,26 @@ module _ (p : Program) (base : ℕ) (x : Routine) (ls : List Layout) (bs : List 
     pub by_state : (line : ℕ) → write (into (in_store path) (step.Field k)) value line (record s0 { store = st }) ≡ Done tt (record s0 { store = store' })
     pub shows : Shows (region_shape p) is_there regions' store'
 
+  -- the bytes of a large value are copied to a variable of the own instance
+  pub record OwnCopied (is_there : ℕ → Bool) (own : Option Address) (own_path : Option Path) (s0 : State) (k size_is : ℕ) (value : Value) (bytes : List ℕ) (rs : List (Option (List ℕ))) (st : Store) : Type 0 where
+    pub begin : Address
+    pub address : Address
+    pub path : Path
+    pub own_is : own ≡ Some begin
+    pub path_is : own_path ≡ Some path
+    pub moves : moved begin (field_offset p (type.Instance (class_of x.class)) k) ≡ Goes address
+    pub regions' : List (Option (List ℕ))
+    pub store' : Store
+    pub by_bytes : (locals : List (List ℕ)) (a : Address) (image : List ℕ) → image_at (record { regions = rs; locals = locals }) a size_is ≡ Goes image → slice_range image a.offset (a.offset + size_is) ≡ bytes → copy_bytes size_is (record { regions = rs; locals = locals }) a address ≡ Goes (record { regions = regions'; locals = locals })
+    pub by_state : (line : ℕ) → write (into (in_store path) (step.Field k)) value line (record s0 { store = st }) ≡ Done tt (record s0 { store = store' })
+    pub shows : Shows (region_shape p) is_there regions' store'
+
   module _ (tables : Tables) (code : MachineCode) (now : ℕ) (n : ℕ) (own : Option Address) (around : List At) (under : List Word) (ticks : ℕ) (after : Unit {0} → State → Memory → Config) (shown : Unit {0} → State → Memory → Type 0) (o : Outcome (Unit {0}))
       (is_there : ℕ → Bool) (own_path : Option Path) (s0 : State) (frame : Frame) (line0 : ℕ)
-      (own_writes : (k : ℕ) (v : Variable) (e : Elem) (z : ℤ) (rs : List (Option (List ℕ))) (st : Store) → recipient_variable p x (to_variable k) ≡ Some v → v.kind ≡ type.Elementary e → Fits e z → Shows (region_shape p) is_there rs st → OwnWritten is_there own own_path s0 k e z (number z) rs st)
+      (own_writes : (k : ℕ) (v : Variable) (e : Elem) (z : ℤ) (rs : List (Option (List ℕ))) (st : Store) → recipient_variable p x (to_variable k) ≡ Some v → KindIs v.kind e → Fits e z → Shows (region_shape p) is_there rs st → OwnWritten is_there own own_path s0 k e z (number z) rs st)
       (own_refers : (k : ℕ) (v : Variable) (o : Option Path) (w : ℕ) (rs : List (Option (List ℕ))) (st : Store) → recipient_variable p x (to_variable k) ≡ Some v → IsHeld v.kind → Refers (region_shape p) o w → Fits elem.Ulint (pos w) → Shows (region_shape p) is_there rs st → OwnWritten is_there own own_path s0 k elem.Ulint (pos w) (reference o) rs st)
-      (d block mask : ℕ) (m : Memory) (b : BlockThere m (base + d) block bs) (few : length x.parameters < result_place) (mask_kept : Holds elem.Ulint (pos mask) bs of_mask) (room_block : 24 ≤ length bs) (apart : ParametersApart p x) where
+      (own_copies : (k : ℕ) (v : Variable) (w : Value) (bytes : List ℕ) (sh : Shape) (rs : List (Option (List ℕ))) (st : Store) → recipient_variable p x (to_variable k) ≡ Some v → is_large v.kind ≡ true → shape_of p v.kind ≡ Some sh → length bytes ≡ size sh → Spells (region_shape p) sh w bytes 0 → Shows (region_shape p) is_there rs st → OwnCopied is_there own own_path s0 k (size sh) w bytes rs st)
+      (d block mask : ℕ) (m : Memory) (b : BlockThere m (base + d) block bs) (few : length x.parameters < result_place) (mask_kept : Holds elem.Ulint (pos mask) bs of_mask) (room_block : 24 ≤ length bs) (apart : ParametersApart p x) (start_is : start ≡ record { space = Locals; index = base + d; offset = block }) where
     abbrev Regions_bytes : Type 0
     Regions_bytes = List (Option (List ℕ))
 
@@ -784,6 +858,31 @@ module _ (p : Program) (base : ℕ) (x : Routine) (ls : List Layout) (bs : List 
           },
         )
 
+    -- what is copied there for one of them
+    copied_there : (k : ℕ) (v : Variable) (ss : List Slot) (w : Value) (sh : Shape) (image bytes : List ℕ) → Entered ss image → slice_get x.locals k ≡ Some v → is_in_out v.sort ≡ false → shape_of p v.kind ≡ Some sh → length bytes ≡ size sh → Spells (region_shape p) sh w bytes 0
+        → (local_offset p 8 x.locals k + size sh ≤ length image) × (length (replaced image (local_offset p 8 x.locals k) bytes) ≡ length image) × Entered (slice_set ss k (holds w)) (replaced image (local_offset p 8 x.locals k) bytes)
+    copied_there k v ss w sh image bytes h there not_bound has_shape long spells =
+        let off = local_offset p 8 x.locals k in
+        let above = offset_above p base x.locals 8 k in
+        let below = offset_below p base x.locals 8 k v there in
+        let wide : width p v ≡ size sh = ap (λ b. if b then 8 else size_in (shape_of p v.kind)) not_bound ∙ ap size_in has_shape in
+        let room = h.room in
+        let fit : off + size sh ≤ length image = omega (arith, below, room, wide) in
+        let keeps = keeps_there p base is_there now image bytes off (size sh) long fit in
+        let same = length-replaced image bytes off (omega (arith, long, fit)) in (
+          fit,
+          same,
+          record {
+            slots = slot_given p base image (replaced image off bytes) off (size sh) keeps ls x.locals ss 8 k v (holds w) h.slots there refl (sym wide) (not_bound, (sh, has_shape, spelled_there p base is_there now sh w image bytes off long fit spells));
+            room = omega (arith, same, room);
+            own_word = holds_moved {e = elem.Ulint} (kept_same keeps 0 0 8 (inl (omega (arith, above)))) h.own_word;
+          },
+        )
+
+    -- where a large value stands behind the block
+    far_is : (far : ℕ) → record start { offset = start.offset + far } ≡ record { space = Locals; index = base + d; offset = block + far }
+    far_is far = ap (λ (a : Address). record a { offset = a.offset + far }) start_is
+
     eight_in : (ss : List Slot) (image : List ℕ) → Entered ss image → 8 ≤ length image
     eight_in ss image h = let l = end_above p base x.locals 8 in let r = h.room in omega (arith, l, r)
 
@@ -802,12 +901,24 @@ module _ (p : Program) (base : ℕ) (x : Routine) (ls : List Layout) (bs : List 
         by (holds w) (not_bound, inl s) has k =
             let e = s.0 in
             let z = s.1 in
-            let wide : width p f.variable ≡ bytes e = ap (λ b. if b then 8 else size_in (shape_of p f.variable.kind)) not_bound ∙ ap size_in s.3 in
-            let r = written_there f.local f.variable ss (holds w) image e z h f.in_locals (sym wide) s.5 (λ im i. (not_bound, (Elementary e, s.3, (z, s.4, i)))) in
+            let wide : width p f.variable ≡ bytes e = ap (λ b. if b then 8 else size_in (shape_of p f.variable.kind)) not_bound ∙ (ap size_in s.3.1 ∙ number_size s.3.0 e s.3.2) in
+            let r = written_there f.local f.variable ss (holds w) image e z h f.in_locals (sym wide) s.5 (λ im i. (not_bound, (s.3.0, s.3.1, subst (λ y. Spells (region_shape p) s.3.0 y im (local_offset p 8 x.locals f.local)) (sym s.4) (spelled_number (region_shape p) s.3.0 e z im (local_offset p 8 x.locals f.local) s.3.2 i)))) in
             subst (λ c. Stands code now n pc c → (Goes_on (pc + length c) rs (written e image (local_offset p 8 x.locals f.local) z)) → Goes_on pc rs image) (sym (at_number tables f.variable e f.parameter (of_parameter f.index) f.local f.to (f.sorted ∙ not_bound) f.in_locals s.2))
             (λ has k. input_next p code now n own around under x.line ticks after shown o base d block bs image (record m { regions = rs }) (of_parameter f.index) (local_offset p 8 x.locals f.local) pc e z (block_at rs) h.own_word eight fit s.6 s.5 r.0 has k)
             has (k (written e image (local_offset p 8 x.locals f.local) z) r.2 r.1)
-        by (holds w) (not_bound, inr s) has k =
+        by (holds w) (not_bound, inr (inr s)) has k =
+            let off = local_offset p 8 x.locals f.local in
+            let inside = s.inside in
+            let bytes = slice_range bs s.far (s.far + size s.shape) in
+            let long : length bytes ≡ size s.shape = length-range bs s.far (size s.shape) inside in
+            let r = copied_there f.local f.variable ss w s.shape image bytes h f.in_locals not_bound s.has_shape long s.spells in
+            let sized : bytes_of_type p f.variable.kind ≡ size s.shape = ap size_in s.has_shape in
+            let given = subst (λ (a : Address). Holds elem.Ulint (pos (kept_number p base a)) bs (of_parameter f.index)) (far_is s.far) s.stands in
+            let decodes = subst (λ (a : Address). reference_of (pos (kept_number p base a)) ≡ word.Address a) (far_is s.far) s.decodes in
+            subst (λ c. Stands code now n pc c → (Goes_on (pc + length c) rs (replaced image off bytes)) → Goes_on pc rs image) (sym (at_large tables f.variable f.parameter (of_parameter f.index) f.local f.to (f.sorted ∙ not_bound) f.in_locals s.large ∙ ap (λ j. in_block x.line (of_parameter f.index) ++ (does op.LoadRef x.line ∷ (does (op.Local off) x.line ∷ (does (op.Copy j) x.line ∷ [])))) sized))
+            (λ has k. copied_next p code now n own around under x.line ticks after shown o base d block bs image (record m { regions = rs }) (of_parameter f.index) s.far off (size s.shape) pc (block_at rs) h.own_word eight fit given decodes inside r.0 has k)
+            has (k (replaced image off bytes) r.2 r.1)
+        by (holds w) (not_bound, inr (inl s)) has k =
             let z : ℤ = pos s.word_is in
             let wide : width p f.variable ≡ 8 = ap (λ b. if b then 8 else size_in (shape_of p f.variable.kind)) not_bound ∙ (ap size_in s.has_shape ∙ address_wide s.shape s.address) in
             let r = written_there f.local f.variable ss (holds w) image elem.Ulint z h f.in_locals (sym wide) s.stands.fits (λ im i. (not_bound, (s.shape, s.has_shape, subst (λ y. Spells (region_shape p) s.shape y im (local_offset p 8 x.locals f.local)) (sym s.is) (address_spells s.shape s.path s.word_is im (local_offset p 8 x.locals f.local) s.address s.refers i)))) in
@@ -843,26 +954,52 @@ module _ (p : Program) (base : ℕ) (x : Routine) (ls : List Layout) (bs : List 
         → ((w : Left_own f.number_is f.value rs st) → Goes_on (pc + length (parameter_in p (called_plan p tables x) x.line x 8 (of_parameter f.index) f.parameter)) w.regions' image) → Goes_on pc rs image
     variable_given g f ss image rs st pc h sh has k = by f.word
       where
-        by : NumberGiven (of_parameter f.index) f.variable f.value ⊎ HeldWord (of_parameter f.index) f.variable f.value → Goes_on pc rs image
+        by : NumberWord (of_parameter f.index) f.variable f.value ⊎ (HeldWord (of_parameter f.index) f.variable f.value ⊎ LargeIn (of_parameter f.index) f.variable f.value) → Goes_on pc rs image
         by (inl s) =
             let e = s.0 in
             let z = s.1 in
-            let w = own_writes f.number_is f.variable e z rs st f.in_instance s.2 s.5 sh in
+            let w = own_writes f.number_is f.variable e z rs st f.in_instance s.2 s.4 sh in
             let m' : Memory = record m { regions = rs } in
             subst (λ c. Stands code now n pc c → Goes_on (pc + length c) w.regions' image → Goes_on pc rs image) (sym (at_variable tables f.parameter f.variable e (of_parameter f.index) f.number_is f.to f.in_instance s.2))
             (λ has k.
             block_next p code now n own around under x.line ticks after shown o base d block bs image m' (of_parameter f.index) pc under (block_at rs) h.own_word (eight_in ss image h) (let l = f.inside in omega (arith, l)) (has.0, (has.1.0, (has.1.1.0, tt)))
             (ends.step_leads code now (op.Load elem.Ulint, x.line) has.1.1.1.0
-            (ends.goes_leads code now (read_bytes elem.Ulint (with_last m' image) (record { space = Locals; index = base + d; offset = block + of_parameter f.index })) (wrapped elem.Ulint z) _ (block_read p code now n own around under x.line ticks after shown o (base + d) block bs image m' (of_parameter f.index) (wrapped elem.Ulint z) (block_at rs) f.inside s.6)
+            (ends.goes_leads code now (read_bytes elem.Ulint (with_last m' image) (record { space = Locals; index = base + d; offset = block + of_parameter f.index })) (wrapped elem.Ulint z) _ (block_read p code now n own around under x.line ticks after shown o (base + d) block bs image m' (of_parameter f.index) (wrapped elem.Ulint z) (block_at rs) f.inside s.5)
             (ends.step_leads code now (op.This (field_offset p (type.Instance (class_of x.class)) f.number_is), x.line) has.1.1.1.1.0
             (ends.same_start code now (ap (λ y. some_or_stuck y >>=step λ a. moved a (field_offset p (type.Instance (class_of x.class)) f.number_is) >>=step λ a. on (at_cell p code now n own around under x.line ticks (pc + 1 + 1 + 1 + 1) (word.Number (wrapped elem.Ulint z) ∷ under) (with_last m' image)) (word.Address a ∷ (word.Number (wrapped elem.Ulint z) ∷ under))) w.own_is)
             (ends.goes_leads code now (moved w.begin (field_offset p (type.Instance (class_of x.class)) f.number_is)) w.address _ w.moves
             (ends.step_leads code now (op.Store e, x.line) has.1.1.1.1.1.0
             (ends.goes_leads code now (write_bytes e (with_last m' image) w.address (wrapped e (wrapped elem.Ulint z))) (with_last (record m { regions = w.regions' }) image) _
-            (ap (λ y. write_bytes e (with_last m' image) w.address y) (through_word e z s.5) ∙ w.by_bytes (m.locals ++ image ∷ []))
+            (ap (λ y. write_bytes e (with_last m' image) w.address y) (through_word e z s.4) ∙ w.by_bytes (m.locals ++ image ∷ []))
             (same_pc p code now n own around under x.line ticks after shown o (with_last (record m { regions = w.regions' }) image) under (pc + 1 + 1 + 1 + 1 + 1 + 1) (pc + 6) (omega arith) k)))))))))
-            has (k (record { path = w.path; path_is = w.path_is; regions' = w.regions'; store' = w.store'; by_state = λ l. ap (λ v. write (into (in_store w.path) (step.Field f.number_is)) v l (record s0 { store = st })) s.4 ∙ w.by_state l; shows = w.shows }))
-        by (inr s) =
+            has (k (record { path = w.path; path_is = w.path_is; regions' = w.regions'; store' = w.store'; by_state = λ l. ap (λ v. write (into (in_store w.path) (step.Field f.number_is)) v l (record s0 { store = st })) s.3 ∙ w.by_state l; shows = w.shows }))
+        by (inr (inr s)) =
+            let inside = s.inside in
+            let bytes = slice_range bs s.far (s.far + size s.shape) in
+            let long : length bytes ≡ size s.shape = length-range bs s.far (size s.shape) inside in
+            let w = own_copies f.number_is f.variable f.value bytes s.shape rs st f.in_instance s.large s.has_shape long s.spells sh in
+            let m' : Memory = record m { regions = rs } in
+            let from : Address = record { space = Locals; index = base + d; offset = block + s.far } in
+            let z : ℤ = pos (kept_number p base from) in
+            let whole = b.inside in
+            let sized : bytes_of_type p f.variable.kind ≡ size s.shape = ap size_in s.has_shape in
+            let given = subst (λ (a : Address). Holds elem.Ulint (pos (kept_number p base a)) bs (of_parameter f.index)) (far_is s.far) s.stands in
+            let decodes = subst (λ (a : Address). reference_of (pos (kept_number p base a)) ≡ word.Address a) (far_is s.far) s.decodes in
+            let bytes_are : slice_range b.image (block + s.far) (block + s.far + size s.shape) ≡ bytes = sym (range_of_range b.image block (length bs) s.far (size s.shape) inside) ∙ ap (λ l. slice_range l s.far (s.far + size s.shape)) b.stands in
+            subst (λ c. Stands code now n pc c → Goes_on (pc + length c) w.regions' image → Goes_on pc rs image) (sym (at_large_variable tables f.parameter f.variable (of_parameter f.index) f.number_is f.to f.in_instance s.large ∙ ap (λ j. in_block x.line (of_parameter f.index) ++ (does op.LoadRef x.line ∷ (does (op.This (field_offset p (type.Instance (class_of x.class)) f.number_is)) x.line ∷ (does (op.Copy j) x.line ∷ [])))) sized))
+            (λ has k.
+            block_next p code now n own around under x.line ticks after shown o base d block bs image m' (of_parameter f.index) pc under (block_at rs) h.own_word (eight_in ss image h) (let l = f.inside in omega (arith, l)) (has.0, (has.1.0, (has.1.1.0, tt)))
+            (ends.step_leads code now (op.LoadRef, x.line) has.1.1.1.0
+            (ends.goes_leads code now (read_bytes elem.Ulint (with_last m' image) (record { space = Locals; index = base + d; offset = block + of_parameter f.index })) z _ (block_read p code now n own around under x.line ticks after shown o (base + d) block bs image m' (of_parameter f.index) z (block_at rs) f.inside given)
+            (subst (λ y. Next p code now n own around under x.line ticks after shown o (pc + 1 + 1 + 1 + 1) (y ∷ under) (with_last m' image)) (sym decodes)
+            (ends.step_leads code now (op.This (field_offset p (type.Instance (class_of x.class)) f.number_is), x.line) has.1.1.1.1.0
+            (ends.same_start code now (ap (λ y. some_or_stuck y >>=step λ a. moved a (field_offset p (type.Instance (class_of x.class)) f.number_is) >>=step λ a. on (at_cell p code now n own around under x.line ticks (pc + 1 + 1 + 1 + 1) (word.Address from ∷ under) (with_last m' image)) (word.Address a ∷ (word.Address from ∷ under))) w.own_is)
+            (ends.goes_leads code now (moved w.begin (field_offset p (type.Instance (class_of x.class)) f.number_is)) w.address _ w.moves
+            (ends.step_leads code now (op.Copy (size s.shape), x.line) has.1.1.1.1.1.0
+            (ends.goes_leads code now (copy_bytes (size s.shape) (with_last m' image) from w.address) (with_last (record m { regions = w.regions' }) image) _ (w.by_bytes (m.locals ++ image ∷ []) from b.image (local_there (with_last m' image) (base + d) (block + s.far) (size s.shape) b.image (front_get m.locals (image ∷ []) (base + d) b.image b.there) (omega (arith, whole, inside))) bytes_are)
+            (same_pc p code now n own around under x.line ticks after shown o (with_last (record m { regions = w.regions' }) image) under (pc + 1 + 1 + 1 + 1 + 1 + 1) (pc + 6) (omega arith) k))))))))))
+            has (k (record { path = w.path; path_is = w.path_is; regions' = w.regions'; store' = w.store'; by_state = w.by_state; shows = w.shows }))
+        by (inr (inl s)) =
             let z : ℤ = pos s.word_is in
             let w = own_refers f.number_is f.variable s.path s.word_is rs st f.in_instance s.held s.refers s.stands.fits sh in
             let m' : Memory = record m { regions = rs } in

@@ -2,10 +2,10 @@
 use Rattle.std.proofs.Common.{◌≡◌, ◌≢◌, ◌≤◌, ◌<◌, ◌⊎◌, ℕ, zero, suc, ◌+◌, ℤ, Bool, true, false, List, [], ◌∷◌, length, Option, Some, None, refl, sym, ap, ◌∙◌, subst, arith, inl, inr, ⊎_elim}
 use Rattle.std.specs.Prelude.{slice_range, if◌then◌else◌, slice_get, slice_set, nat_eq}
 use Rattle.std.proofs.lemmas.Bool.{eqb-true, eq-eqb, ne_eqb}
+use Rattle.mem_image.proofs.PartLaws.{length-range, range_of_range}
 use Rattle.st_types.specs.declared.elem.Elem.{Elem}
 use Rattle.st_types.specs.Elem.{bytes}
 use Rattle.st_types.specs.declared.elem.Elem.TheVariants as elem
-use Rattle.mem_image.proofs.PartLaws.{length-range}
 use Rattle.mem_image.specs.Laws.{AreApart}
 use Rattle.st_values.specs.Program.{Variable, Program}
 use Rattle.st_values.specs.Value.{Value, number, ◌>>=◌}
@@ -309,6 +309,44 @@ module _ (p : Program) (base : ℕ) where
         frames_other ks fs images (base + length ks) image' (omega arith) h.1,
       )
 
+  -- what is kept below the block is written
+  pub below_put : (k : Open) (ks : List Open) (fs : List Frame) (images : List (List ℕ)) (block : ℕ) (bytes : List ℕ) (y : Kept) (behind : List Kept) (image image' : List ℕ) → FramesShown p base (keeping k block bytes (y ∷ behind) ∷ ks) fs images
+      → slice_get images (base + length ks) ≡ Some image → length image' ≡ length image → Keeps image image' y.from (length y.bytes)
+      → FramesShown p base (keeping k block bytes (record { from = y.from; bytes = slice_range image' y.from (y.from + length y.bytes) } ∷ behind) ∷ ks) fs (slice_set images (base + length ks) image')
+  below_put k ks [] images block bytes y behind image image' h g long keeps = absurd h
+  below_put k ks (f ∷ fs) images block bytes y behind image image' h g long keeps =
+      let o = h.0 in
+      let x = o.kept.0 in
+      let z = o.kept.1.0 in
+      let same_image : o.image ≡ image = some_once (sym o.there ∙ g) in
+      let above = z.above in
+      let under = z.below in
+      let x_under = x.below in
+      let room = o.room in
+      let image_long : length image ≡ k.long = sym (ap length same_image) ∙ o.long in
+      let long' : length (slice_range image' y.from (y.from + length y.bytes)) ≡ length y.bytes = length-range image' y.from (length y.bytes) (omega (arith, long, image_long, under, x_under, room)) in
+      let stood : slice_range image block (block + length bytes) ≡ bytes = subst (λ i. slice_range i block (block + length bytes) ≡ bytes) same_image x.stands in (
+        record {
+          image = image';
+          there = get_set_same images (base + length ks) image' image g;
+          long = long ∙ image_long;
+          own = o.own;
+          block = block_stays image image' y.from (length y.bytes) keeps k.block k.start (let e = end_above k.scope.locals k.start in omega (arith, above, e)) (subst (BlockAt p base k.block k.start) same_image o.block);
+          slots = slots_before image image' y.from (length y.bytes) keeps (layouts ks) k.scope.locals f.locals k.start above (subst (λ i. SlotsShown p base (layouts ks) k.scope.locals f.locals i k.start) same_image o.slots);
+          low = o.low;
+          room = o.room;
+          short = o.short;
+          kept = (
+            record { above = x.above; below = x.below; stands = keeps.by block (length bytes) (inl under) ∙ stood },
+            (
+              record { above = z.above; below = omega (arith, long', under); stands = ap (λ j. slice_range image' y.from (y.from + j)) long' },
+              kept_before image image' y.from (length y.bytes) keeps (locals_end p k.start k.scope.locals) y.from behind (omega arith) (subst (λ i. AllKept p base i (locals_end p k.start k.scope.locals) y.from behind) same_image o.kept.1.1),
+            ),
+          );
+        },
+        frames_other ks fs images (base + length ks) image' (omega arith) h.1,
+      )
+
   -- more bytes are kept behind the locals of the innermost call
   pub kept_room : (n : ℕ) (k : Open) (ks : List Open) (fs : List Frame) (images : List (List ℕ)) (image image' : List ℕ) → FramesShown p base (k ∷ ks) fs images → slice_get images (base + length ks) ≡ Some image → length image' ≡ length image → Keeps image image' k.free n → k.free + n ≤ k.long
       → FramesShown p base (record k { free = k.free + n; kept = record { from = k.free; bytes = slice_range image' k.free (k.free + n) } ∷ k.kept } ∷ ks) fs (slice_set images (base + length ks) image')
@@ -350,6 +388,59 @@ module _ (p : Program) (base : ℕ) where
       let below = o.kept.0.below in
       let room = o.room in
       (record { image = o.image; there = o.there; long = o.long; own = o.own; block = o.block; slots = o.slots; low = omega (arith, above, e); room = omega (arith, below, e, room); short = o.short; kept = subst (λ n. AllKept p base o.image (locals_end p k.start k.scope.locals) n kept) e o.kept.1 }, h.1)
+
+  -- what is kept at two places, one behind the other, as one
+  pub record Joined (k : Open) (ks : List Open) (fs : List Frame) (images : List (List ℕ)) (from : ℕ) (xs ys : List ℕ) (rest : List Kept) : Type 0 where
+    pub bytes : List ℕ
+    pub long : length bytes ≡ length xs + length ys
+    pub front : (j n : ℕ) → j + n ≤ length xs → slice_range bytes j (j + n) ≡ slice_range xs j (j + n)
+    pub back : slice_range bytes (length xs) (length xs + length ys) ≡ ys
+    pub frames : FramesShown p base (record k { kept = record { from = from; bytes = bytes } ∷ rest } ∷ ks) fs images
+
+  pub kept_joined : (k : Open) (ks : List Open) (fs : List Frame) (images : List (List ℕ)) (from : ℕ) (xs ys : List ℕ) (rest : List Kept) → FramesShown p base (record k { kept = record { from = from + length xs; bytes = ys } ∷ (record { from = from; bytes = xs } ∷ rest) } ∷ ks) fs images → Joined k ks fs images from xs ys rest
+  kept_joined k ks [] images from xs ys rest h = absurd h
+  kept_joined k ks (f ∷ fs) images from xs ys rest h =
+      let o = h.0 in
+      let a = o.kept.0 in
+      let b = o.kept.1.0 in
+      let n = length xs + length ys in
+      let below = a.below in
+      let room = o.room in
+      let long = o.long in
+      let bytes = slice_range o.image from (from + n) in
+      let size_is : length bytes ≡ n = length-range o.image from n (omega (arith, below, room, long)) in
+      record {
+        bytes = bytes;
+        long = size_is;
+        front = λ j m l. range_of_range o.image from n j m (omega (arith, l)) ∙ (sym (range_of_range o.image from (length xs) j m l) ∙ ap (λ i. slice_range i j (j + m)) b.stands);
+        back = range_of_range o.image from n (length xs) (length ys) (omega arith) ∙ a.stands;
+        frames = (record { image = o.image; there = o.there; long = o.long; own = o.own; block = o.block; slots = o.slots; low = o.low; room = o.room; short = o.short; kept = (record { above = b.above; below = omega (arith, below, size_is); stands = ap (λ j. slice_range o.image from (from + j)) size_is }, o.kept.1.1) }, h.1);
+      }
+
+  -- the first bytes of what is kept, where the others are no longer of use
+  pub record Cut (k : Open) (ks : List Open) (fs : List Frame) (images : List (List ℕ)) (from n : ℕ) (xs : List ℕ) (rest : List Kept) : Type 0 where
+    pub bytes : List ℕ
+    pub long : length bytes ≡ n
+    pub front : (j m : ℕ) → j + m ≤ n → slice_range bytes j (j + m) ≡ slice_range xs j (j + m)
+    pub frames : FramesShown p base (record k { free = from + n; kept = record { from = from; bytes = bytes } ∷ rest } ∷ ks) fs images
+
+  pub kept_cut : (k : Open) (ks : List Open) (fs : List Frame) (images : List (List ℕ)) (from n : ℕ) (xs : List ℕ) (rest : List Kept) → n ≤ length xs → FramesShown p base (record k { kept = record { from = from; bytes = xs } ∷ rest } ∷ ks) fs images → Cut k ks fs images from n xs rest
+  kept_cut k ks [] images from n xs rest l h = absurd h
+  kept_cut k ks (f ∷ fs) images from n xs rest l h =
+      let o = h.0 in
+      let a = o.kept.0 in
+      let above = a.above in
+      let below = a.below in
+      let room = o.room in
+      let long = o.long in
+      let bytes = slice_range o.image from (from + n) in
+      let size_is : length bytes ≡ n = length-range o.image from n (omega (arith, below, room, long, l)) in
+      record {
+        bytes = bytes;
+        long = size_is;
+        front = λ j m i. range_of_range o.image from n j m i ∙ (sym (range_of_range o.image from (length xs) j m (omega (arith, i, l))) ∙ ap (λ i. slice_range i j (j + m)) a.stands);
+        frames = (record { image = o.image; there = o.there; long = o.long; own = o.own; block = o.block; slots = o.slots; low = omega (arith, above); room = omega (arith, below, room, l); short = o.short; kept = (record { above = a.above; below = omega (arith, size_is); stands = ap (λ j. slice_range o.image from (from + j)) size_is }, o.kept.1) }, h.1);
+      }
 
   -- ---- the locals of the innermost call, with the words of in-outs
 

@@ -50,12 +50,12 @@ use Rattle.st_meaning.specs.st_frame.Promise.Names.{Scope, RootIs, NameIs, OwnVa
 use Rattle.st_meaning.specs.st_frame.Promise.Programs.{ProgramIs}
 use Rattle.st_meaning.specs.st_frame.Promise.Expressions.{ExpressionIs, AlongIs, SelectorIs, IndexIs, TailsAre, ArgumentsAre, CalledAlong, OperandIs}
 use Rattle.st_meaning.specs.st_frame.Promise.Operators.{OperationIs, Common, NegatedIs}
-use Rattle.st_meaning.specs.st_frame.Promise.Calls.{kind, Suits, ConversionIs, CallIs, next_number}
-use Rattle.st_meaning.specs.st_frame.Promise.Types.{IsElementary, IsHeld, IsNumeric}
+use Rattle.st_meaning.specs.st_frame.Promise.Calls.{recipient_variable, kind, Suits, ConversionIs, CallIs, next_number}
+use Rattle.st_meaning.specs.st_frame.Promise.Types.{Widens, IsElementary, IsHeld, IsNumeric}
 use Rattle.st_meaning.specs.st_frame.Promise.Places.{ElementIs, PartIs, TargetIs, NamedIs, IsPlace, IsNothing, HasMethods, LastIs}
 use Rattle.st_meaning.specs.st_frame.Promise.Declarations.{ParameterIs, RoutineIs, Each}
 use Rattle.st_meaning.specs.st_frame.Good.{Fit, Held}
-use Rattle.st_meaning.proofs.st_frame.Unfolded.{opened, region_is}
+use Rattle.st_meaning.proofs.st_frame.Unfolded.{within_bound, opened, region_is}
 use Rattle.st_meaning.proofs.st_frame.OfTypes.{OfKind, Near, wraps_fit, path_is}
 use Rattle.st_meaning.proofs.st_frame.Spots.{spot_shape, SpotIs, as_plain, Meets, exactly, below, Within as typing_within, within_further, element_meets, by_name, variable_shape}
 use Rattle.st_meaning.proofs.st_frame.Obeys.{Anything, Alike, Both, Obeys, own_obeys, then_obeys, obeys_less}
@@ -86,22 +86,23 @@ use Rattle.code_rules.specs.Plan.{Tables, Plan, plan_of}
 use Rattle.code_rules.specs.declared.local.LocalPlace.{LocalPlace}
 use Rattle.code_rules.proofs.PlanLaws.{place_found}
 use Rattle.code_rules.specs.Code.{class_of, value_code, along_code, selected_code, indexed_code, root_code, named_code, chained_code, arguments_code, bound_code, passed_code, local_code, operated_code, held_code, followed_code, part_code, fetch_code, is_held, named_value_code, index_op, give_code, passed_room, number_kind, call_value_code, negated_code, instance_code, is_conversion}
-use Rattle.code_rules.specs.Places.{bytes_of, field_offset, is_large, block_size, room_of, of_parameter, local_offset, width, size_in}
+use Rattle.code_rules.specs.Places.{bytes_of, field_offset, is_large, block_size, room_of, of_parameter, of_own, local_offset, width, size_in}
 use Rattle.code_rules.specs.Tops.{along_top, selector_top, index_top, value_top, tails_top, arguments_top, call_top}
 use Rattle.shown_memory.specs.Shown.{Kept, Open, scopes, Layout, layouts, Located, located, path_word, spot_word, word_at, value_word, FramesShown, Shown, Small, kept_number, layout_at, in_layout, SlotShown}
 use Rattle.shown_memory.proofs.Geometry.{spot_located, held_shape}
-use Rattle.shown_memory.proofs.Locals.{block_there, block_put, as_many, at_offset, slot_at, located_more, same_length}
-use Rattle.shown_memory.specs.Passing.{Keeps, recipient, given_word, IsPassed, ArePassed, with_block}
+use Rattle.shown_memory.proofs.Locals.{kept_joined, block_there, block_put, as_many, at_offset, slot_at, located_more, same_length}
+use Rattle.shown_memory.specs.Passing.{LargeGiven, value_given, Keeps, recipient, given_word, IsPassed, ArePassed, with_block}
 use Rattle.shown_memory.proofs.Levels.{within_found}
 use Rattle.shown_memory.proofs.Parts.{Known, located_known, PartThere, structure_part, variable_part}
 use Rattle.shown_memory.proofs.Geometry as geometry
 use Rattle.memory_access.specs.Access.{Within}
 use Rattle.memory_access.proofs.Likes.{local_there, load_like, loadref_like, place_room, decoded_place, compared_paths, length_set}
 use Rattle.memory_access.proofs.Copies.{keep_place}
-use Rattle.memory_access.proofs.Worded.{by_size, held_path, held_small, large_plain, large_word, number_small, numeric_value, enumeration_shape, compared_sort, operation_small, held_no_number, number_not_held, instances, NoNumber, no_number, none_in_frame}
-use Rattle.memory_access.proofs.KeptAddresses.{held_there, kept_place}
+use Rattle.memory_access.proofs.Narrow.{eight}
+use Rattle.memory_access.proofs.Worded.{widens_large, by_size, held_path, held_small, large_plain, large_word, number_small, numeric_value, enumeration_shape, compared_sort, operation_small, held_no_number, number_not_held, instances, NoNumber, no_number, none_in_frame}
+use Rattle.memory_access.proofs.KeptAddresses.{kept_local, held_there, kept_place}
 use Rattle.value_runs.proofs.Ends.{Leads, Stands}
-use Rattle.value_runs.proofs.Arguments.{argument_numbers, IsIn, Once, eights_apart, to_recipient, SmallValue, SmallArguments, local_of, next_there, behind_there}
+use Rattle.memory_access.proofs.Arguments.{arguments_end, value_once, argument_numbers, IsIn, Once, eights_apart, to_recipient, local_of, next_there, behind_there}
 use Rattle.value_runs.proofs.Ends as ends
 
 none_some : (q : Path) → None ≡ Some q → ⊥
@@ -389,7 +390,7 @@ module _ (p : Program) (fine : ProgramIs p) (small : Small p) (is_there : ℕ �
     target_run t u free pc kept ws spot s m h f sh has = absurd h
 
     -- a part
-    step_run : (t u : StType) (x : Target) (k free pc : ℕ) (kept : List Kept) (ws : List Word) (spot : Spot) (s : State) (m : Memory) → PartIs p t x u → (x ≡ target.Field k) ⊎ (x ≡ target.Variable k) → SpotIs p fine F W gs spot t → Now_shown free kept s m → Stands code now r pc (does (op.Offset (field_offset p t k)) line ∷ [])
+    pub step_run : (t u : StType) (x : Target) (k free pc : ℕ) (kept : List Kept) (ws : List Word) (spot : Spot) (s : State) (m : Memory) → PartIs p t x u → (x ≡ target.Field k) ⊎ (x ≡ target.Variable k) → SpotIs p fine F W gs spot t → Now_shown free kept s m → Stands code now r pc (does (op.Offset (field_offset p t k)) line ∷ [])
         → From (cfg pc (spot_word p base ls spot ∷ ws) s m) (lands (pc + 1) (λ y. spot_word p base ls y ∷ ws)) (Shows free kept) (Done (into spot (step.Field k)) s)
     step_run t u x k free pc kept ws spot s m h w f sh has =
         let l = lies spot t f in
@@ -638,7 +639,7 @@ module _ (p : Program) (fine : ProgramIs p) (small : Small p) (is_there : ℕ �
         (ends.stays code now x.0.value s y.memory kept_there)))))))))
 
     -- what is read at a place
-    fetch_run : (t : StType) (free pc : ℕ) (kept : List Kept) (ws : List Word) (spot : Spot) (s : State) (m : Memory) → free + room_of (bytes_of p) t ≤ k0.long → Fair gs s → SpotIs p fine F W gs spot t → Now_shown free kept s m → Stands code now r pc (fetch_code plan line free t)
+    pub fetch_run : (t : StType) (free pc : ℕ) (kept : List Kept) (ws : List Word) (spot : Spot) (s : State) (m : Memory) → free + room_of (bytes_of p) t ≤ k0.long → Fair gs s → SpotIs p fine F W gs spot t → Now_shown free kept s m → Stands code now r pc (fetch_code plan line free t)
         → From (cfg pc (spot_word p base ls spot ∷ ws) s m) (lands (pc + length (fetch_code plan line free t)) (λ v. value_word p base (here_at free) v ∷ ws)) (λ v y x. Valued t free kept v y x) (place_value t (gives spot) line s)
     fetch_run (type.Elementary e) free pc kept ws spot s m top fair f sh has =
         let l = lies spot (type.Elementary e) f in
@@ -1000,63 +1001,64 @@ module _ (p : Program) (fine : ProgramIs p) (small : Small p) (is_there : ℕ �
     -- ---- arguments
 
     -- the numbers of the parameters to which it is given
-    abbrev pub AtNumbers : (ps : List Parameter) (bytes : List ℕ) (gs : List Given) → ArePassed p base ls ps bytes gs → List ℕ → Type 0
-    AtNumbers ps bytes [] h [] = Unit {0}
-    AtNumbers ps bytes (g ∷ gs) h (n ∷ ns) = (h.0.number ≡ n) × AtNumbers ps bytes gs h.1 ns
-    AtNumbers ps bytes _ h _ = ⊥
+    abbrev pub AtNumbers : (x : Routine) (block low : ℕ) (ps : List Parameter) (bytes : List ℕ) (gs : List Given) → ArePassed p base ls x (here_at block) low ps bytes gs → List ℕ → Type 0
+    AtNumbers x block low ps bytes [] h [] = Unit {0}
+    AtNumbers x block low ps bytes (g ∷ gs) h (n ∷ ns) = (h.0.number ≡ n) × AtNumbers x block low ps bytes gs h.1 ns
+    AtNumbers x block low ps bytes _ h _ = ⊥
 
-    -- the block with what was given so far; the words of other parameters are as before
-    pub record Passes (ps : List Parameter) (free block : ℕ) (rest : List Kept) (before : List ℕ) (numbers : List ℕ) (given : List Given) (s : State) (m : Memory) : Type 0 where
+    -- the block with what was given so far; the words of other parameters are as before, and so is what stands behind it
+    pub record Passes (x : Routine) (ps : List Parameter) (free block : ℕ) (rest : List Kept) (before : List ℕ) (numbers : List ℕ) (given : List Given) (s : State) (m : Memory) : Type 0 where
       pub bytes : List ℕ
-      pub long : length bytes ≡ block_size (length ps)
-      pub passed : ArePassed p base ls ps bytes given
-      pub numbered : AtNumbers ps bytes given passed numbers
+      pub long : block + length bytes ≡ free
+      pub longer : length before ≤ length bytes
+      pub passed : ArePassed p base ls x (here_at block) (block_size (length ps)) ps bytes given
+      pub numbered : AtNumbers x block (block_size (length ps)) ps bytes given passed numbers
       pub others : (j : ℕ) → j < length ps → (IsIn numbers j → ⊥) → slice_range bytes (of_parameter j) (of_parameter j + 8) ≡ slice_range before (of_parameter j) (of_parameter j + 8)
+      pub same_own : slice_range bytes of_own (of_own + 8) ≡ slice_range before of_own (of_own + 8)
+      pub behind : (j n : ℕ) → block_size (length ps) ≤ j → j + n ≤ length before → slice_range bytes j (j + n) ≡ slice_range before j (j + n)
       pub shown : Shown p base is_there now (with_block p base (record k0 { free = free }) block bytes rest ∷ ks) m s
 
     -- one argument
-    pub record PassesOne (ps : List Parameter) (free block : ℕ) (rest : List Kept) (before : List ℕ) (number_is : ℕ) (g : Given) (s : State) (m : Memory) : Type 0 where
+    pub record PassesOne (x : Routine) (ps : List Parameter) (free block : ℕ) (rest : List Kept) (before : List ℕ) (number_is : ℕ) (g : Given) (s : State) (m : Memory) : Type 0 where
       pub bytes : List ℕ
-      pub long : length bytes ≡ block_size (length ps)
-      pub passed : IsPassed p base ls ps bytes g
+      pub long : block + length bytes ≡ free
+      pub longer : length before ≤ length bytes
+      pub passed : IsPassed p base ls x (here_at block) (block_size (length ps)) ps bytes g
       pub at : passed.number ≡ number_is
       pub others : (j : ℕ) → j < length ps → (number_is ≡ j → ⊥) → slice_range bytes (of_parameter j) (of_parameter j + 8) ≡ slice_range before (of_parameter j) (of_parameter j + 8)
+      pub same_own : slice_range bytes of_own (of_own + 8) ≡ slice_range before of_own (of_own + 8)
+      pub behind : (j n : ℕ) → block_size (length ps) ≤ j → j + n ≤ length before → slice_range bytes j (j + n) ≡ slice_range before j (j + n)
       pub shown : Shown p base is_there now (with_block p base (record k0 { free = free }) block bytes rest ∷ ks) m s
 
+    -- what stands behind the block stays
+    pub large_stays : (start : Address) (low : ℕ) (before after : List ℕ) (a : Address) (t : StType) (v : Value) → length before ≤ length after → ((j n : ℕ) → low ≤ j → j + n ≤ length before → slice_range after j (j + n) ≡ slice_range before j (j + n)) → LargeGiven p base start low before a t v → LargeGiven p base start low after a t v
+    large_stays start low before after a t v longer behind h = record {
+      at = h.at;
+      above = h.above;
+      shape = h.shape;
+      has_shape = h.has_shape;
+      inside = (let l = h.inside in omega (arith, l, longer));
+      address_is = h.address_is;
+      spells = subst (λ bs. Spells (region_shape p) h.shape v bs 0) (sym (behind h.at (store.size h.shape) h.above h.inside)) h.spells;
+    }
+
     -- what stands in the eight bytes of a parameter stays where only others are written
-    abbrev pub still_passed : (ps : List Parameter) (before after : List ℕ) (g : Given) (x : IsPassed p base ls ps before g) → slice_range after (of_parameter x.number) (of_parameter x.number + 8) ≡ slice_range before (of_parameter x.number) (of_parameter x.number + 8) → length after ≡ length before → IsPassed p base ls ps after g
-    still_passed ps before after g x e long =
-        record { number = x.number; parameter = x.parameter; large_at = x.large_at; there = x.there; to = x.to; inside = subst (λ n. of_parameter x.number + 8 ≤ n) (sym long) x.inside; word_kept = record { z = x.word_kept.z; is = x.word_kept.is; holds_it = record { fits = x.word_kept.holds_it.fits; stands = e ∙ x.word_kept.holds_it.stands } } }
+    abbrev pub still_passed : (x : Routine) (block low : ℕ) (ps : List Parameter) (before after : List ℕ) (g : Given) (h : IsPassed p base ls x (here_at block) low ps before g) → slice_range after (of_parameter h.number) (of_parameter h.number + 8) ≡ slice_range before (of_parameter h.number) (of_parameter h.number + 8) → length before ≤ length after
+        → ((j n : ℕ) → low ≤ j → j + n ≤ length before → slice_range after j (j + n) ≡ slice_range before j (j + n)) → IsPassed p base ls x (here_at block) low ps after g
+    still_passed x block low ps before after g h e longer behind = record {
+      number = h.number;
+      parameter = h.parameter;
+      large_at = h.large_at;
+      there = h.there;
+      to = h.to;
+      inside = (let l = h.inside in omega (arith, l, longer));
+      word_kept = record { z = h.word_kept.z; is = h.word_kept.is; holds_it = record { fits = h.word_kept.holds_it.fits; stands = e ∙ h.word_kept.holds_it.stands } };
+      large = λ v u i j k. large_stays (here_at block) low before after h.large_at u.kind v longer behind (h.large v u i j k);
+    }
 
     its_word : (to : Recipient) (a : Address) (v : Value) (bytes : List ℕ) (i : ℕ) → Keeps (value_word p base a v) bytes i → Keeps (given_word p base ls a (given_value to v)) bytes i
     its_word (to_local n) a v bytes i h = h
     its_word (to_variable k) a v bytes i h = h
-
-    -- a number for an input
-    number_passed : (q : Parameter) (n : ℕ) (k : Elem) (ps : List Parameter) (cv : List Cell) (value_of : Run Value) (free block : ℕ) (rest : List Kept) (bytes : List ℕ) (pc : ℕ) (ws : List Word) (s : State) (m : Memory)
-        → slice_get ps n ≡ Some q → length bytes ≡ block_size (length ps) → Fair gs s → Shown p base is_there now (with_block p base (record k0 { free = free }) block bytes rest ∷ ks) m s
-        → Stands code now r pc (cv ++ (does (op.Local (block + of_parameter n)) line ∷ (does (op.Store elem.Ulint) line ∷ [])))
-        → (Stands code now r pc cv → From (cfg pc ws s m) (lands (pc + length cv) (λ v. value_word p base (here_at free) v ∷ ws)) (λ _ t y. Shown p base is_there now (with_block p base (record k0 { free = free }) block bytes rest ∷ ks) y t) (value_of line s)) → Typed_run value_of (OfKind p F (type.Elementary k))
-        → From (cfg pc ws s m) (λ _ z y. cfg (pc + length cv + 1 + 1) ws z y) (PassesOne ps free block rest bytes n) ((value_of >>= λ v. gives (given_value q.to v)) line s)
-    number_passed q n k ps cv value_of free block rest bytes pc ws s m e long fair sh has vr typed =
-        let within_ps = slice_get_within ps n q e in
-        bind {m = value_of} (lands (pc + length cv) (λ v. value_word p base (here_at free) v ∷ ws)) (λ _ t y. Shown p base is_there now (with_block p base (record k0 { free = free }) block bytes rest ∷ ks) y t)
-        (vr (ends.front code now r pc cv _ has)) typed fair
-        (λ v t y sh' is fair'.
-        let z = a_number (type.Elementary k) k v refl is in
-        let fit : of_parameter n + 8 ≤ length bytes = omega (arith, within_ps, long) in
-        let w = wrapped elem.Ulint z.0 in
-        number_leads (λ v. Done (given_value q.to v) t) (here_at free) (pc + length cv) ws t y v z.0 z.1
-        (ends.and_then code now (λ _ t y. cfg (pc + length cv + 1 + 1) ws t y) (λ _ t y. BlockWritten (record k0 { free = free }) block bytes rest (of_parameter n) w t y)
-        (give_run (record k0 { free = free }) block bytes rest (of_parameter n) (pc + length cv) z.0 ws t y ps sh' fit (ends.back code now r pc cv _ has))
-        (λ y2 b. ends.stays code now (given_value q.to (number z.0)) t y2 (record {
-          bytes = b.left;
-          long = b.long ∙ long;
-          passed = record { number = n; parameter = q; large_at = here_at free; there = e; to = to_recipient q.to (number z.0); inside = (let g = b.long in omega (arith, fit, g)); word_kept = its_word q.to (here_at free) (number z.0) b.left (of_parameter n) (record { z = w; is = refl; holds_it = b.word_there }) };
-          at = refl;
-          others = λ j l d. b.others (of_parameter j) 8 (eights_apart n j d) (omega (arith, long, l));
-          shown = b.shown;
-        }))))
 
     -- ---- a word goes to its parameter: a number, a reference, or the address of a place
 
@@ -1073,20 +1075,24 @@ module _ (p : Program) (fine : ProgramIs p) (small : Small p) (is_there : ℕ �
         (ends.goes_leads code now (write_bytes elem.Ulint m (here_at (block + at)) z) x.0 _ x.1
         (ends.stays code now tt s x.0 x.2))))))
 
-    pub one_passed : (q : Parameter) (n : ℕ) (ps : List Parameter) (free block : ℕ) (rest : List Kept) (bytes : List ℕ) (pc : ℕ) (ws : List Word) (t : State) (y : Memory) (g : Given) (w : Word) (z : ℤ) → slice_get ps n ≡ Some q → length bytes ≡ block_size (length ps) → q.to ≡ recipient g → kept_word (given_word p base ls (here_at free) g) ≡ Goes z
+    pub one_passed : (x : Routine) (q : Parameter) (n : ℕ) (ps : List Parameter) (free block : ℕ) (rest : List Kept) (bytes : List ℕ) (pc : ℕ) (ws : List Word) (t : State) (y : Memory) (g : Given) (w : Word) (z : ℤ) → slice_get ps n ≡ Some q → block + length bytes ≡ free → block_size (length ps) ≤ length bytes → q.to ≡ recipient g → kept_word (given_word p base ls (here_at free) g) ≡ Goes z
+        → ((v : Value) (u : Variable) → value_given g ≡ Some v → recipient_variable p x (recipient g) ≡ Some u → is_large u.kind ≡ true → ⊥)
         → From (cfg pc (w ∷ ws) t y) (λ (_ : Unit {0}) t y. cfg (pc + 1 + 1) ws t y) (λ _ t y. BlockWritten (record k0 { free = free }) block bytes rest (of_parameter n) z t y) (Done tt t)
-        → From (cfg pc (w ∷ ws) t y) (λ _ t y. cfg (pc + 1 + 1) ws t y) (PassesOne ps free block rest bytes n) (Done g t)
-    one_passed q n ps free block rest bytes pc ws t y g w z e long to keeps h =
+        → From (cfg pc (w ∷ ws) t y) (λ _ t y. cfg (pc + 1 + 1) ws t y) (PassesOne x ps free block rest bytes n) (Done g t)
+    one_passed x q n ps free block rest bytes pc ws t y g w z e long big to keeps none h =
         let within_ps = slice_get_within ps n q e in
         ends.and_then code now (λ _ t y. cfg (pc + 1 + 1) ws t y) (λ _ t y. BlockWritten (record k0 { free = free }) block bytes rest (of_parameter n) z t y) h
         (λ y2 b.
         let same = b.long in
         ends.stays code now g t y2 (record {
           bytes = b.left;
-          long = b.long ∙ long;
-          passed = record { number = n; parameter = q; large_at = here_at free; there = e; to = to; inside = omega (arith, within_ps, long, same); word_kept = record { z = z; is = keeps; holds_it = b.word_there } };
+          long = ap (λ l. block + l) b.long ∙ long;
+          longer = omega (arith, same);
+          passed = record { number = n; parameter = q; large_at = here_at free; there = e; to = to; inside = omega (arith, within_ps, big, same); word_kept = record { z = z; is = keeps; holds_it = b.word_there }; large = λ v u i j k. absurd (none v u i j k) };
           at = refl;
-          others = λ j l d. b.others (of_parameter j) 8 (eights_apart n j d) (omega (arith, long, l));
+          others = λ j l d. b.others (of_parameter j) 8 (eights_apart n j d) (omega (arith, big, l));
+          same_own = b.others of_own 8 (inr (omega arith)) (omega (arith, big));
+          behind = λ j k a l. b.others j k (inl (omega (arith, within_ps, a))) l;
           shown = b.shown;
         }))
 
@@ -1145,25 +1151,41 @@ module _ (p : Program) (fine : ProgramIs p) (small : Small p) (is_there : ℕ �
         by None = refl
         by (Some l) = refl
 
-    -- a value or a place goes to its parameter; no value is large, and what is bound is a local
-    passed_run : (q : Parameter) (n : ℕ) (t : StType) (ps : List Parameter) (cv cp : List Cell) (value_of : Run Value) (place_of : Run Spot) (free block : ℕ) (rest : List Kept) (bytes : List ℕ) (pc : ℕ) (ws : List Word) (s : State) (m : Memory)
-        → slice_get ps n ≡ Some q → length bytes ≡ block_size (length ps) → Fair gs s → Shown p base is_there now (with_block p base (record k0 { free = free }) block bytes rest ∷ ks) m s → base + length (k0 ∷ ks) ≤ 2147483647
-        → (is_in_out q.sort ≡ false → is_large t ≡ false) → (is_in_out q.sort ≡ true → q.to ≡ to_local (number_to q.to))
+    large_held : (t : StType) → is_large t ≡ true → is_held t ≡ true
+    large_held (type.Elementary e) h = cc
+    large_held (type.Enumeration n) h = cc
+    large_held t h = refl
+
+    -- what is in use has less than 2 ^ 32 bytes
+    free_low : (free : ℕ) (kept : List Kept) (s : State) (m : Memory) → Now_shown free kept s m → free < 4294967296
+    free_low free kept s m sh = by s.frames sh.frames
+      where
+        by : (fs : List Frame) → FramesShown p base (kept_at free kept) fs m.locals → free < 4294967296
+        by [] h = absurd h
+        by (f ∷ fs) h = let a = h.0.room in let b = h.0.short in omega (arith, a, b)
+
+    -- a value or a place goes to its parameter; what is bound is a local
+    passed_run : (q : Parameter) (n : ℕ) (t : StType) (x : Routine) (u : Variable) (ps : List Parameter) (cv cp : List Cell) (value_of : Run Value) (place_of : Run Spot) (free block : ℕ) (rest : List Kept) (bytes : List ℕ) (pc : ℕ) (ws : List Word) (s : State) (m : Memory)
+        → slice_get ps n ≡ Some q → recipient_variable p x q.to ≡ Some u → block + length bytes ≡ free → block_size (length ps) ≤ length bytes → Fair gs s → Shown p base is_there now (with_block p base (record k0 { free = free }) block bytes rest ∷ ks) m s → base + length (k0 ∷ ks) ≤ 2147483647
+        → (is_in_out q.sort ≡ false → Widens p t u.kind) → (is_in_out q.sort ≡ true → q.to ≡ to_local (number_to q.to))
         → Stands code now r pc (passed_code line (Some q) (block + of_parameter n) t cv cp)
-        → (is_large t ≡ false → Stands code now r pc cv → From (cfg pc ws s m) (lands (pc + length cv) (λ v. value_word p base (here_at free) v ∷ ws)) (λ _ t y. Shown p base is_there now (with_block p base (record k0 { free = free }) block bytes rest ∷ ks) y t) (value_of line s)) → Typed_run value_of (OfKind p F t)
+        → (Stands code now r pc cv → From (cfg pc ws s m) (lands (pc + length cv) (λ v. value_word p base (here_at free) v ∷ ws)) (λ v t' y. Valued t free (record { from = block; bytes = bytes } ∷ rest) v t' y) (value_of line s)) → Typed_run value_of (OfKind p F t)
         → (is_in_out q.sort ≡ true → Stands code now r pc cp → From (cfg pc ws s m) (lands (pc + length cp) (λ y. spot_word p base ls y ∷ ws)) (λ _ t y. Shown p base is_there now (with_block p base (record k0 { free = free }) block bytes rest ∷ ks) y t) (place_of line s))
         → (is_in_out q.sort ≡ true → Typed_run place_of (λ spot. SpotIs p fine F W gs spot t))
-        → From (cfg pc ws s m) (λ _ z y. cfg (pc + length (passed_code line (Some q) (block + of_parameter n) t cv cp)) ws z y) (PassesOne ps free block rest bytes n) (passed (Some q) value_of place_of line s)
-    passed_run q n t ps cv cp value_of place_of free block rest bytes pc ws s m e long fair sh few small_value local has vr typed pr placed_so = by (is_in_out q.sort) refl has
+        → From (cfg pc ws s m) (λ _ z y. cfg (pc + length (passed_code line (Some q) (block + of_parameter n) t cv cp)) ws z y) (PassesOne x ps (free + passed_room plan (Some q) t) block rest bytes n) (passed (Some q) value_of place_of line s)
+    passed_run q n t x u ps cv cp value_of place_of free block rest bytes pc ws s m e to_u long big fair sh few widens local has vr typed pr placed_so = by (is_in_out q.sort) refl has
       where
+        kept : List Kept
+        kept = record { from = block; bytes = bytes } ∷ rest
+
         at : ℕ
         at = block + of_parameter n
 
-        fit : of_parameter n + 8 ≤ length bytes
-        fit = let l = slice_get_within ps n q e in omega (arith, l, long)
+        within_ps : n < length ps
+        within_ps = slice_get_within ps n q e
 
-        blocked : State → Memory → Type 0
-        blocked u y = Shown p base is_there now (with_block p base (record k0 { free = free }) block bytes rest ∷ ks) y u
+        fit : of_parameter n + 8 ≤ length bytes
+        fit = let l = within_ps in omega (arith, l, big)
 
         code_by : Bool → List Cell
         code_by b = if b then cp ++ (does (op.Local at) line ∷ (does op.StoreRef line ∷ [])) else cv ++ give_code line at t
@@ -1171,38 +1193,36 @@ module _ (p : Program) (fine : ProgramIs p) (small : Small p) (is_there : ℕ �
         run_by : Bool → Run Given
         run_by b = if b then (place_of >>= λ spot. gives (given_place q.to spot)) else (value_of >>= λ v. gives (given_value q.to v))
 
-        by : (b : Bool) → is_in_out q.sort ≡ b → Stands code now r pc (code_by b) → From (cfg pc ws s m) (λ _ z y. cfg (pc + length (code_by b)) ws z y) (PassesOne ps free block rest bytes n) (run_by b line s)
-        by true i has =
-            let at_end : pc + length cp + 1 + 1 ≡ pc + length (cp ++ (does (op.Local at) line ∷ (does op.StoreRef line ∷ []))) = omega (arith, length-append cp (does (op.Local at) line ∷ (does op.StoreRef line ∷ []))) in
-            subst (λ j. From (cfg pc ws s m) (λ _ z y. cfg j ws z y) (PassesOne ps free block rest bytes n) ((place_of >>= λ spot. gives (given_place q.to spot)) line s)) at_end
-            (bind {m = place_of} (lands (pc + length cp) (λ y. spot_word p base ls y ∷ ws)) (λ _ u y. Shown p base is_there now (with_block p base (record k0 { free = free }) block bytes rest ∷ ks) y u) (pr i (ends.front code now r pc cp _ has)) (placed_so i) fair
-            (λ spot u y sh' is fair'.
-            let l = lies spot t is in
-            let k = kept_place p base is_there now (with_block p base (record k0 { free = free }) block bytes rest ∷ ks) spot l.place u y small sh' few l.is in
-            let w_is : spot_word p base ls spot ≡ word.Address l.place.address = ap (word_at p base) l.is in
-            let keeps : kept_word (spot_word p base ls spot) ≡ Goes (pos (kept_number p base l.place.address)) = ap kept_word w_is ∙ k.keeps in
-            spot_leads (pc + length cp) ws u y spot l.place l.is
-            (one_passed q n ps free block rest bytes (pc + length cp) ws u y (given_place q.to spot) (word.Address l.place.address) (pos (kept_number p base l.place.address)) e long (local i) keeps
-            (give_reference (record k0 { free = free }) block bytes rest (of_parameter n) (pc + length cp) (word.Address l.place.address) (pos (kept_number p base l.place.address)) ws u y refl k.keeps k.fits sh' fit (ends.back code now r pc cp _ has)))))
-        by false i has =
+        -- a word that no value is behind
+        small_one : is_large t ≡ false → is_in_out q.sort ≡ false → Stands code now r pc (code_by false) → From (cfg pc ws s m) (λ _ z y. cfg (pc + length (code_by false)) ws z y) (PassesOne x ps free block rest bytes n) (run_by false line s)
+        small_one small_t i has =
             let cg = give_code line at t in
             let at_end : pc + length cv + 1 + 1 ≡ pc + length (cv ++ cg) = omega (arith, length-append cv cg) in
-            subst (λ j. From (cfg pc ws s m) (λ _ z y. cfg j ws z y) (PassesOne ps free block rest bytes n) ((value_of >>= λ v. gives (given_value q.to v)) line s)) at_end
-            (bind {m = value_of} (lands (pc + length cv) (λ v. value_word p base (here_at free) v ∷ ws)) (λ _ u y. Shown p base is_there now (with_block p base (record k0 { free = free }) block bytes rest ∷ ks) y u) (vr (small_value i) (ends.front code now r pc cv _ has)) typed fair
-            (λ v u y sh' is fair'. one v u y sh' (passable t v (small_value i) is) (ends.back code now r pc cv cg has)))
+            subst (λ j. From (cfg pc ws s m) (λ _ z y. cfg j ws z y) (PassesOne x ps free block rest bytes n) ((value_of >>= λ v. gives (given_value q.to v)) line s)) at_end
+            (bind {m = value_of} (lands (pc + length cv) (λ v. value_word p base (here_at free) v ∷ ws)) (λ _ u y. Shown p base is_there now (with_block p base (record k0 { free = free }) block bytes rest ∷ ks) y u) (plainly t free kept small_t (vr (ends.front code now r pc cv _ has))) typed fair
+            (λ v u y sh' is fair'. one v u y sh' (passable t v small_t is) (ends.back code now r pc cv cg has)))
           where
+            none_large : (v w : Value) (u' : Variable) → value_given (given_value q.to v) ≡ Some w → recipient_variable p x (recipient (given_value q.to v)) ≡ Some u' → is_large u'.kind ≡ true → ⊥
+            none_large v w u' a b c =
+                let same : u ≡ u' = let d : Some u ≡ Some u' = sym to_u ∙ (ap (recipient_variable p x) (to_recipient q.to v) ∙ b) in cc in
+                let big_u : is_large u.kind ≡ true = ap (λ (y : Variable). is_large y.kind) same ∙ c in
+                no_both (is_large t) small_t (ap is_large (widens_large p t u.kind (widens i) big_u) ∙ big_u)
+              where
+                no_both : (b : Bool) → b ≡ false → b ≡ true → ⊥
+                no_both b e f = let d : false ≡ true = sym e ∙ f in cc
+
             one : (v : Value) (u : State) (y : Memory) → Shown p base is_there now (with_block p base (record k0 { free = free }) block bytes rest ∷ ks) y u → Passable t v → Stands code now r (pc + length cv) (give_code line (block + of_parameter n) t)
-                → From (cfg (pc + length cv) (value_word p base (here_at free) v ∷ ws) u y) (λ _ t y. cfg (pc + length cv + 1 + 1) ws t y) (PassesOne ps free block rest bytes n) (Done (given_value q.to v) u)
-            one v u y sh' x has =
-                let keeps = ap kept_word (x.is_word free) ∙ x.keeps in
-                one_passed q n ps free block rest bytes (pc + length cv) ws u y (given_value q.to v) (value_word p base (here_at free) v) x.z e long (to_recipient q.to v) (its_kept q.to v x.z keeps) (given_so x.which)
+                → From (cfg (pc + length cv) (value_word p base (here_at free) v ∷ ws) u y) (λ _ t y. cfg (pc + length cv + 1 + 1) ws t y) (PassesOne x ps free block rest bytes n) (Done (given_value q.to v) u)
+            one v u y sh' pass has =
+                let keeps = ap kept_word (pass.is_word free) ∙ pass.keeps in
+                one_passed x q n ps free block rest bytes (pc + length cv) ws u y (given_value q.to v) (value_word p base (here_at free) v) pass.z e long big (to_recipient q.to v) (its_kept q.to v pass.z keeps) (none_large v) (given_so pass.which)
               where
                 its_kept : (to : Recipient) (v : Value) (z : ℤ) → kept_word (value_word p base (here_at free) v) ≡ Goes z → kept_word (given_word p base ls (here_at free) (given_value to v)) ≡ Goes z
                 its_kept (to_local c) v z h = h
                 its_kept (to_variable c) v z h = h
 
-                given_so : ((k : ℤ) × (v ≡ number k) × (is_held t ≡ false) × (x.z ≡ wrapped elem.Ulint k)) ⊎ ((o : Option Path) × (v ≡ reference o) × (is_held t ≡ true))
-                    → From (cfg (pc + length cv) (value_word p base (here_at free) v ∷ ws) u y) (λ (_ : Unit {0}) t y. cfg (pc + length cv + 1 + 1) ws t y) (λ _ t y. BlockWritten (record k0 { free = free }) block bytes rest (of_parameter n) x.z t y) (Done tt u)
+                given_so : ((k : ℤ) × (v ≡ number k) × (is_held t ≡ false) × (pass.z ≡ wrapped elem.Ulint k)) ⊎ ((o : Option Path) × (v ≡ reference o) × (is_held t ≡ true))
+                    → From (cfg (pc + length cv) (value_word p base (here_at free) v ∷ ws) u y) (λ (_ : Unit {0}) t y. cfg (pc + length cv + 1 + 1) ws t y) (λ _ t y. BlockWritten (record k0 { free = free }) block bytes rest (of_parameter n) pass.z t y) (Done tt u)
                 given_so (inl k) =
                     let has' = subst (λ b. Stands code now r (pc + length cv) (does (op.Local (block + of_parameter n)) line ∷ (does (if b then op.StoreRef else op.Store elem.Ulint) line ∷ []))) k.2 has in
                     subst (λ z. From (cfg (pc + length cv) (value_word p base (here_at free) v ∷ ws) u y) (λ (_ : Unit {0}) t y. cfg (pc + length cv + 1 + 1) ws t y) (λ _ t y. BlockWritten (record k0 { free = free }) block bytes rest (of_parameter n) z t y) (Done tt u)) (sym k.3)
@@ -1210,9 +1230,99 @@ module _ (p : Program) (fine : ProgramIs p) (small : Small p) (is_there : ℕ �
                     (give_run (record k0 { free = free }) block bytes rest (of_parameter n) (pc + length cv) k.0 ws u y ps sh' fit has'))
                 given_so (inr k) =
                     let has' = subst (λ b. Stands code now r (pc + length cv) (does (op.Local (block + of_parameter n)) line ∷ (does (if b then op.StoreRef else op.Store elem.Ulint) line ∷ []))) k.2 has in
-                    let keeps = ap kept_word (x.is_word free) ∙ x.keeps in
-                    give_reference (record k0 { free = free }) block bytes rest (of_parameter n) (pc + length cv) (value_word p base (here_at free) v) x.z ws u y
-                    (subst (λ v. machine.reference (value_word p base (here_at free) v ∷ ws) ≡ Goes (value_word p base (here_at free) v, ws)) (sym k.1) (word_refers k.0 (here_at free) ws)) keeps x.fits sh' fit has'
+                    let keeps = ap kept_word (pass.is_word free) ∙ pass.keeps in
+                    give_reference (record k0 { free = free }) block bytes rest (of_parameter n) (pc + length cv) (value_word p base (here_at free) v) pass.z ws u y
+                    (subst (λ v. machine.reference (value_word p base (here_at free) v ∷ ws) ≡ Goes (value_word p base (here_at free) v, ws)) (sym k.1) (word_refers k.0 (here_at free) ws)) keeps pass.fits sh' fit has'
+
+        -- a large value stays behind what was given before, and its address is the word
+        large_one : is_large t ≡ true → is_in_out q.sort ≡ false → Stands code now r pc (code_by false) → From (cfg pc ws s m) (λ _ z y. cfg (pc + length (code_by false)) ws z y) (PassesOne x ps (free + room_of (bytes_of p) t) block rest bytes n) (run_by false line s)
+        large_one large i has =
+            let cg = give_code line at t in
+            let free' = free + room_of (bytes_of p) t in
+            let at_end : pc + length cv + 1 + 1 ≡ pc + length (cv ++ cg) = omega (arith, length-append cv cg) in
+            let has_g = subst (λ b. Stands code now r (pc + length cv) (does (op.Local at) line ∷ (does (if b then op.StoreRef else op.Store elem.Ulint) line ∷ []))) (large_held t large) (ends.back code now r pc cv cg has) in
+            subst (λ j. From (cfg pc ws s m) (λ _ z y. cfg j ws z y) (PassesOne x ps free' block rest bytes n) ((value_of >>= λ v. gives (given_value q.to v)) line s)) at_end
+            (bind {m = value_of} (lands (pc + length cv) (λ v. value_word p base (here_at free) v ∷ ws)) (λ v t' y. LargeKept t free kept v t' y)
+            (subst (λ b. From (cfg pc ws s m) (lands (pc + length cv) (λ v. value_word p base (here_at free) v ∷ ws)) (λ v t' y. by_size b (LargeKept t free kept v t' y) (Now_shown free kept t' y)) (value_of line s)) large (vr (ends.front code now r pc cv _ has)))
+            typed fair
+            (λ v z y k is fair'.
+            let un = within_bound p t k.shape k.unfolds in
+            let word_is = large_word p fine base (here_at free) t k.shape v k.bytes 0 large un k.spells in
+            let room_is : room_of (bytes_of p) t ≡ store.size k.shape = ap (λ b. if b then bytes_of p t else 0) large ∙ ap size_in k.unfolds in
+            let long_v = k.long in
+            let j = kept_joined p base (record k0 { free = free' }) ks z.frames y.locals block bytes k.bytes rest (subst (λ f. FramesShown p base (record k0 { free = free'; kept = record { from = f; bytes = k.bytes } ∷ kept } ∷ ks) z.frames y.locals) (sym long) k.shown.frames) in
+            let long_j = j.long in
+            let sh2 : Shown p base is_there now (with_block p base (record k0 { free = free' }) block j.bytes rest ∷ ks) y z = record { regions = k.shown.regions; frames = j.frames; deep = k.shown.deep; moment = k.shown.moment } in
+            let low = free_low free' (record { from = free; bytes = k.bytes } ∷ kept) z y k.shown in
+            let ka = kept_local p base (base + length ks) free (omega (arith, few)) (omega (arith, low)) in
+            let fit_j : of_parameter n + 8 ≤ length j.bytes = (let f = fit in omega (arith, f, long_j)) in
+            subst (λ w. From (cfg (pc + length cv) (w ∷ ws) z y) (λ _ t y. cfg (pc + length cv + 1 + 1) ws t y) (PassesOne x ps free' block rest bytes n) (Done (given_value q.to v) z)) (sym word_is)
+            (ends.and_then code now (λ _ t y. cfg (pc + length cv + 1 + 1) ws t y) (λ _ t y. BlockWritten (record k0 { free = free' }) block j.bytes rest (of_parameter n) (pos (kept_number p base (here_at free))) t y)
+            (give_reference (record k0 { free = free' }) block j.bytes rest (of_parameter n) (pc + length cv) (word.Address (here_at free)) (pos (kept_number p base (here_at free))) ws z y refl ka.keeps ka.fits sh2 fit_j has_g)
+            (λ y2 b.
+            let same = b.long in
+            let inside_ps = within_ps in
+            let value_there : slice_range b.left (length bytes) (length bytes + store.size k.shape) ≡ k.bytes =
+            b.others (length bytes) (store.size k.shape) (inl (omega (arith, inside_ps, big))) (omega (arith, long_j, long_v)) ∙ (ap (λ n. slice_range j.bytes (length bytes) (length bytes + n)) (sym long_v) ∙ j.back) in
+            ends.stays code now (given_value q.to v) z y2 (record {
+              bytes = b.left;
+              long = omega (arith, same, long_j, long_v, room_is, long);
+              longer = omega (arith, same, long_j);
+              passed = record {
+                number = n;
+                parameter = q;
+                large_at = here_at free;
+                there = e;
+                to = to_recipient q.to v;
+                inside = omega (arith, fit_j, same);
+                word_kept = its_word q.to (here_at free) v b.left (of_parameter n) (record { z = pos (kept_number p base (here_at free)); is = ap kept_word word_is ∙ ka.keeps; holds_it = b.word_there });
+                large = λ w u' a c d.
+                    let same_u : u ≡ u' = let f : Some u ≡ Some u' = sym to_u ∙ (ap (recipient_variable p x) (to_recipient q.to v) ∙ c) in cc in
+                    let kind_is : t ≡ u'.kind = widens_large p t u.kind (widens i) (ap (λ (y : Variable). is_large y.kind) same_u ∙ d) ∙ ap (λ (y : Variable). y.kind) same_u in
+                    subst (λ k. LargeGiven p base (here_at block) (block_size (length ps)) b.left (here_at free) k w) kind_is
+                    (subst (λ v. LargeGiven p base (here_at block) (block_size (length ps)) b.left (here_at free) t v) (value_once q.to v w a)
+                    (record {
+                      at = length bytes;
+                      above = big;
+                      shape = k.shape;
+                      has_shape = k.unfolds;
+                      inside = omega (arith, same, long_j, long_v);
+                      address_is = ap here_at (sym long);
+                      spells = subst (λ bs. Spells (region_shape p) k.shape v bs 0) (sym value_there) k.spells;
+                    }));
+              };
+              at = refl;
+              others = λ j' l d. b.others (of_parameter j') 8 (eights_apart n j' d) (omega (arith, long_j, big, l)) ∙ j.front (of_parameter j') 8 (omega (arith, big, l));
+              same_own = b.others of_own 8 (inr (omega arith)) (omega (arith, long_j, big)) ∙ j.front of_own 8 (omega (arith, big));
+              behind = λ j' m a l. b.others j' m (inl (omega (arith, inside_ps, a))) (omega (arith, long_j, l)) ∙ j.front j' m l;
+              shown = b.shown;
+            })))))
+
+        by : (b : Bool) → is_in_out q.sort ≡ b → Stands code now r pc (code_by b) → From (cfg pc ws s m) (λ _ z y. cfg (pc + length (code_by b)) ws z y) (PassesOne x ps (free + (if b then 0 else room_of (bytes_of p) t)) block rest bytes n) (run_by b line s)
+        by true i has =
+            let at_end : pc + length cp + 1 + 1 ≡ pc + length (cp ++ (does (op.Local at) line ∷ (does op.StoreRef line ∷ []))) = omega (arith, length-append cp (does (op.Local at) line ∷ (does op.StoreRef line ∷ []))) in
+            subst (λ j. From (cfg pc ws s m) (λ _ z y. cfg (pc + length (code_by true)) ws z y) (PassesOne x ps j block rest bytes n) (run_by true line s)) (let z : free ≡ free + 0 = omega arith in z)
+            (subst (λ j. From (cfg pc ws s m) (λ _ z y. cfg j ws z y) (PassesOne x ps free block rest bytes n) ((place_of >>= λ spot. gives (given_place q.to spot)) line s)) at_end
+            (bind {m = place_of} (lands (pc + length cp) (λ y. spot_word p base ls y ∷ ws)) (λ _ u y. Shown p base is_there now (with_block p base (record k0 { free = free }) block bytes rest ∷ ks) y u) (pr i (ends.front code now r pc cp _ has)) (placed_so i) fair
+            (λ spot u y sh' is fair'.
+            let l = lies spot t is in
+            let k = kept_place p base is_there now (with_block p base (record k0 { free = free }) block bytes rest ∷ ks) spot l.place u y small sh' few l.is in
+            let w_is : spot_word p base ls spot ≡ word.Address l.place.address = ap (word_at p base) l.is in
+            let keeps : kept_word (spot_word p base ls spot) ≡ Goes (pos (kept_number p base l.place.address)) = ap kept_word w_is ∙ k.keeps in
+            spot_leads (pc + length cp) ws u y spot l.place l.is
+            (one_passed x q n ps free block rest bytes (pc + length cp) ws u y (given_place q.to spot) (word.Address l.place.address) (pos (kept_number p base l.place.address)) e long big (local i) keeps (λ v u' a c d. no_value v a)
+            (give_reference (record k0 { free = free }) block bytes rest (of_parameter n) (pc + length cp) (word.Address l.place.address) (pos (kept_number p base l.place.address)) ws u y refl k.keeps k.fits sh' fit (ends.back code now r pc cp _ has))))))
+          where
+            no_value : (v : Value) → None ≡ Some v → ⊥
+            no_value v e = cc
+        by false i has = sized (is_large t) refl
+          where
+            sized : (b : Bool) → is_large t ≡ b → From (cfg pc ws s m) (λ _ z y. cfg (pc + length (code_by false)) ws z y) (PassesOne x ps (free + room_of (bytes_of p) t) block rest bytes n) (run_by false line s)
+            sized true large = large_one large i has
+            sized false small_t =
+                let none : room_of (bytes_of p) t ≡ 0 = ap (λ b. if b then bytes_of p t else 0) small_t in
+                let z : free ≡ free + room_of (bytes_of p) t = omega (arith, none) in
+                subst (λ j. From (cfg pc ws s m) (λ _ z y. cfg (pc + length (code_by false)) ws z y) (PassesOne x ps j block rest bytes n) (run_by false line s)) z (small_one small_t i has)
 
     -- what is no constant and no enumerator is a place
     place_told : {P : Type 0} (x : Target) (t : StType) (q : Type 0) → IsNothing x → NamedIs p x t P → P
@@ -1221,51 +1331,43 @@ module _ (p : Program) (fine : ProgramIs p) (small : Small p) (is_there : ℕ �
 
     -- one argument, with or without a name
     one_argument : (o : Option Parameter) (n : ℕ) (e : Expression Note) (x : Routine) (ps : List Parameter) (cv cp : List Cell) (value_of : Run Value) (place_of : Run Spot) (free block : ℕ) (rest : List Kept) (bytes : List ℕ) (pc : ℕ) (ws : List Word) (s : State) (m : Memory)
-        → slice_get ps n ≡ o → Suits p x o e → ((q : Parameter) → o ≡ Some q → ParameterIs p x q) → SmallValue o e → length bytes ≡ block_size (length ps) → Fair gs s → Shown p base is_there now (with_block p base (record k0 { free = free }) block bytes rest ∷ ks) m s → base + length (k0 ∷ ks) ≤ 2147483647
+        → slice_get ps n ≡ o → Suits p x o e → ((q : Parameter) → o ≡ Some q → ParameterIs p x q) → block + length bytes ≡ free → block_size (length ps) ≤ length bytes → Fair gs s → Shown p base is_there now (with_block p base (record k0 { free = free }) block bytes rest ∷ ks) m s → base + length (k0 ∷ ks) ≤ 2147483647
         → Stands code now r pc (passed_code line o (block + of_parameter n) (kind e) cv cp)
-        → (is_large (kind e) ≡ false → Stands code now r pc cv → From (cfg pc ws s m) (lands (pc + length cv) (λ v. value_word p base (here_at free) v ∷ ws)) (λ _ t y. Shown p base is_there now (with_block p base (record k0 { free = free }) block bytes rest ∷ ks) y t) (value_of line s)) → Typed_run value_of (OfKind p F (kind e))
+        → (Stands code now r pc cv → From (cfg pc ws s m) (lands (pc + length cv) (λ v. value_word p base (here_at free) v ∷ ws)) (λ v t y. Valued (kind e) free (record { from = block; bytes = bytes } ∷ rest) v t y) (value_of line s)) → Typed_run value_of (OfKind p F (kind e))
         → (IsPlace e → Stands code now r pc cp → From (cfg pc ws s m) (lands (pc + length cp) (λ y. spot_word p base ls y ∷ ws)) (λ _ t y. Shown p base is_there now (with_block p base (record k0 { free = free }) block bytes rest ∷ ks) y t) (place_of line s))
         → (IsPlace e → is_bound o ≡ true → Typed_run place_of (λ spot. SpotIs p fine F W gs spot (kind e)))
-        → From (cfg pc ws s m) (λ _ z y. cfg (pc + length (passed_code line o (block + of_parameter n) (kind e) cv cp)) ws z y) (PassesOne ps free block rest bytes n) (passed o value_of place_of line s)
-    one_argument None n e x ps cv cp value_of place_of free block rest bytes pc ws s m there suits is small_value long fair sh few has vr typed pr placed_so = absurd suits
-    one_argument (Some q) n e x ps cv cp value_of place_of free block rest bytes pc ws s m there suits is small_value long fair sh few has vr typed pr placed_so =
-        passed_run q n (kind e) ps cv cp value_of place_of free block rest bytes pc ws s m there long fair sh few small_value (λ i. local_of q ((is q refl).3 i)) has vr typed (λ i. pr (suits.2 i).0) (λ i. placed_so (suits.2 i).0 i)
-
-    no_room : (o : Option Parameter) (e : Expression Note) (free : ℕ) → SmallValue o e → free + passed_room plan o (kind e) ≡ free
-    no_room None e free h = omega arith
-    no_room (Some q) e free h = by (is_in_out q.sort) refl
-      where
-        zero_more : (n : ℕ) → n ≡ 0 → free + n ≡ free
-        zero_more n e = omega (arith, e)
-
-        by : (b : Bool) → is_in_out q.sort ≡ b → free + (if b then 0 else room_of (bytes_of p) (kind e)) ≡ free
-        by true i = omega arith
-        by false i = zero_more (room_of (bytes_of p) (kind e)) (ap (λ b. if b then bytes_of p (kind e) else 0) (h i))
+        → From (cfg pc ws s m) (λ _ z y. cfg (pc + length (passed_code line o (block + of_parameter n) (kind e) cv cp)) ws z y) (PassesOne x ps (free + passed_room plan o (kind e)) block rest bytes n) (passed o value_of place_of line s)
+    one_argument None n e x ps cv cp value_of place_of free block rest bytes pc ws s m there suits is long big fair sh few has vr typed pr placed_so = absurd suits
+    one_argument (Some q) n e x ps cv cp value_of place_of free block rest bytes pc ws s m there suits is long big fair sh few has vr typed pr placed_so =
+        passed_run q n (kind e) x suits.0 ps cv cp value_of place_of free block rest bytes pc ws s m there suits.1 long big fair sh few suits.3 (λ i. local_of q ((is q refl).3 i)) has vr typed (λ i. pr (suits.2 i).0) (λ i. placed_so (suits.2 i).0 i)
 
     -- an argument, and then those behind it
-    pub argument_then_run : (n : ℕ) (ps : List Parameter) (cx : List Cell) (cr : ℕ → List Cell) (one : Run Given) (others : Run (List Given)) (numbers : List ℕ) (free room_more block : ℕ) (rest : List Kept) (bytes : List ℕ) (pc : ℕ) (ws : List Word) (s : State) (m : Memory)
-        → free + room_more ≡ free → (IsIn numbers n → ⊥) → Fair gs s → Stands code now r pc (cx ++ cr (free + room_more)) → Typed_run one Anything
-        → (Stands code now r pc cx → From (cfg pc ws s m) (λ _ z y. cfg (pc + length cx) ws z y) (PassesOne ps free block rest bytes n) (one line s))
-        → ((bytes' : List ℕ) (t : State) (y : Memory) → Fair gs t → Shown p base is_there now (with_block p base (record k0 { free = free }) block bytes' rest ∷ ks) y t → length bytes' ≡ block_size (length ps) → Stands code now r (pc + length cx) (cr free)
-        → From (cfg (pc + length cx) ws t y) (λ _ t y. cfg (pc + length cx + length (cr free)) ws t y) (Passes ps free block rest bytes' numbers) (others line t))
-        → From (cfg pc ws s m) (λ _ t y. cfg (pc + length (cx ++ cr (free + room_more))) ws t y) (Passes ps free block rest bytes (n ∷ numbers)) ((one >>= λ g. others >>= λ gs. gives (g ∷ gs)) line s)
-    argument_then_run n ps cx cr one others numbers free room_more block rest bytes pc ws s m same once fair has typed first behind =
-        subst (λ k. Stands code now r pc (cx ++ cr k) → From (cfg pc ws s m) (λ _ t y. cfg (pc + length (cx ++ cr k)) ws t y) (Passes ps free block rest bytes (n ∷ numbers)) ((one >>= λ g. others >>= λ gs. gives (g ∷ gs)) line s)) (sym same)
-        (λ has.
-        subst (λ k. From (cfg pc ws s m) (λ _ t y. cfg k ws t y) (Passes ps free block rest bytes (n ∷ numbers)) ((one >>= λ g. others >>= λ gs. gives (g ∷ gs)) line s)) (omega (arith, length-append cx (cr free)))
-        (bind {m = one} (λ _ t y. cfg (pc + length cx) ws t y) (PassesOne ps free block rest bytes n) (first (ends.front code now r pc cx _ has)) typed fair
+    pub argument_then_run : (x : Routine) (n : ℕ) (ps : List Parameter) (cx cr : List Cell) (one : Run Given) (others : Run (List Given)) (numbers : List ℕ) (free end block : ℕ) (rest : List Kept) (bytes : List ℕ) (pc : ℕ) (ws : List Word) (s : State) (m : Memory)
+        → block_size (length ps) ≤ length bytes → (IsIn numbers n → ⊥) → Fair gs s → Stands code now r pc (cx ++ cr) → Typed_run one Anything
+        → (Stands code now r pc cx → From (cfg pc ws s m) (λ _ z y. cfg (pc + length cx) ws z y) (PassesOne x ps free block rest bytes n) (one line s))
+        → ((bytes' : List ℕ) (t : State) (y : Memory) → Fair gs t → Shown p base is_there now (with_block p base (record k0 { free = free }) block bytes' rest ∷ ks) y t → block + length bytes' ≡ free → block_size (length ps) ≤ length bytes' → Stands code now r (pc + length cx) cr
+        → From (cfg (pc + length cx) ws t y) (λ _ t y. cfg (pc + length cx + length cr) ws t y) (Passes x ps end block rest bytes' numbers) (others line t))
+        → From (cfg pc ws s m) (λ _ t y. cfg (pc + length (cx ++ cr)) ws t y) (Passes x ps end block rest bytes (n ∷ numbers)) ((one >>= λ g. others >>= λ gs. gives (g ∷ gs)) line s)
+    argument_then_run x n ps cx cr one others numbers free end block rest bytes pc ws s m big once fair has typed first behind =
+        subst (λ k. From (cfg pc ws s m) (λ _ t y. cfg k ws t y) (Passes x ps end block rest bytes (n ∷ numbers)) ((one >>= λ g. others >>= λ gs. gives (g ∷ gs)) line s)) (omega (arith, length-append cx cr))
+        (bind {m = one} (λ _ t y. cfg (pc + length cx) ws t y) (PassesOne x ps free block rest bytes n) (first (ends.front code now r pc cx _ has)) typed fair
         (λ g t y one _ fair'.
-        ends.then_leads code now (λ _ t y. cfg (pc + length cx + length (cr free)) ws t y) (Passes ps free block rest one.bytes numbers)
-        (behind one.bytes t y fair' one.shown one.long (ends.back code now r pc cx _ has))
-        (λ given t' y' rest_is _. ends.stays code now (g ∷ given) t' y' (record {
+        let longer_1 = one.longer in
+        ends.then_leads code now (λ _ t y. cfg (pc + length cx + length cr) ws t y) (Passes x ps end block rest one.bytes numbers)
+        (behind one.bytes t y fair' one.shown one.long (omega (arith, big, longer_1)) (ends.back code now r pc cx _ has))
+        (λ given t' y' rest_is _.
+        let longer_2 = rest_is.longer in
+        ends.stays code now (g ∷ given) t' y' (record {
           bytes = rest_is.bytes;
           long = rest_is.long;
-          passed = (still_passed ps one.bytes rest_is.bytes g one.passed (rest_is.others one.passed.number (slice_get_within ps one.passed.number one.passed.parameter one.passed.there) (λ k. once (subst (IsIn numbers) one.at k))) (rest_is.long ∙ sym one.long), rest_is.passed);
+          longer = omega (arith, longer_1, longer_2);
+          passed = (still_passed x block (block_size (length ps)) ps one.bytes rest_is.bytes g one.passed (rest_is.others one.passed.number (slice_get_within ps one.passed.number one.passed.parameter one.passed.there) (λ k. once (subst (IsIn numbers) one.at k))) rest_is.longer rest_is.behind, rest_is.passed);
           numbered = (one.at, rest_is.numbered);
           others = λ j b k. rest_is.others j b (λ l. k (inr l)) ∙ one.others j b (λ l. k (inl l));
+          same_own = rest_is.same_own ∙ one.same_own;
+          behind = λ j m a l. rest_is.behind j m a (omega (arith, l, longer_1)) ∙ one.behind j m a l;
           shown = rest_is.shown;
-        })))))
-        has
+        }))))
 
     -- ---- leaves, and what makes one number of another
 
@@ -1366,28 +1468,39 @@ module _ (p : Program) (fine : ProgramIs p) (small : Small p) (is_there : ℕ �
     abbrev pub Arguments_run : Arguments Note → Type 0
     Arguments_run xs = (x : Routine) (ps : List Parameter) (free block : ℕ) (rest : List Kept) (bytes : List ℕ) (pc : ℕ) (ws : List Word) (s : State) (m : Memory)
         → arguments_top plan free ps ps xs ≤ k0.long → RoutineIs p x → Each (ParameterIs p x) ps → base + length (k0 ∷ ks) ≤ 2147483647
-        → ArgumentsAre p k0.scope x ps ps xs → SmallArguments ps ps xs → AllOf (argument_uses p ps ps xs) → Once (argument_numbers 0 ps xs) → Fair gs s → Shown p base is_there now (with_block p base (record k0 { free = free }) block bytes rest ∷ ks) m s → length bytes ≡ block_size (length ps)
+        → ArgumentsAre p k0.scope x ps ps xs → AllOf (argument_uses p ps ps xs) → Once (argument_numbers 0 ps xs) → Fair gs s → Shown p base is_there now (with_block p base (record k0 { free = free }) block bytes rest ∷ ks) m s → block + length bytes ≡ free → block_size (length ps) ≤ length bytes
         → Stands code now r pc (arguments_code plan line block free ps 0 ps xs)
-        → From (cfg pc ws s m) (λ _ t y. cfg (pc + length (arguments_code plan line block free ps 0 ps xs)) ws t y) (Passes ps free block rest bytes (argument_numbers 0 ps xs)) (arguments p (enter p room) ps ps xs line s)
+        → From (cfg pc ws s m) (λ _ t y. cfg (pc + length (arguments_code plan line block free ps 0 ps xs)) ws t y) (Passes x ps (arguments_end plan free ps ps xs) block rest bytes (argument_numbers 0 ps xs)) (arguments p (enter p room) ps ps xs line s)
+
+    -- and the places that take outputs
+    abbrev pub Place_runs : Root Note → Selectors Note → Type 0
+    Place_runs q ss = (free pc : ℕ) (kept : List Kept) (ws : List Word) (s : State) (m : Memory) → along_top plan free ss ≤ k0.long → RootIs p k0.scope q → AlongIs p k0.scope ss (root_note q).kind → AllOf (root_uses q ++ along_uses p (root_note q).kind ss) → Fair gs s → Now_shown free kept s m → Stands code now r pc (rc q ++ ac free ss (root_note q).kind)
+        → From (cfg pc ws s m) (lands (pc + length (rc q ++ ac free ss (root_note q).kind)) (λ y. spot_word p base ls y ∷ ws)) (Shows free kept) (placed q (along p (enter p room) ss) line s)
+
+    abbrev pub Outputs_run : Arguments Note → Type 0
+    Outputs_run no_arguments = Unit {0}
+    Outputs_run (argument_then (Positional e) xs) = Outputs_run xs
+    Outputs_run (argument_then (Input a name e) xs) = Outputs_run xs
+    Outputs_run (argument_then (Output a name b q ss) xs) = Place_runs q ss × Outputs_run xs
 
     -- any call that is no conversion
     abbrev pub Call_runs : Type 0
     Call_runs = (xs : Arguments Note) (a : Note) (q : Root Note) (ss : Selectors Note) (free pc : ℕ) (kept : List Kept) (ws : List Word) (s : State) (m : Memory)
-        → is_conversion (callee_of q ss) ≡ false → value_top plan free (Call a q ss xs) ≤ k0.long → ExpressionIs p k0.scope (Call a q ss xs) → AllOf (expression_uses p (Call a q ss xs)) → Fair gs s → Now_shown free kept s m → Stands code now r pc (ec free (Call a q ss xs)) → Goal_runs q ss free pc kept ws s m → Arguments_run xs
+        → is_conversion (callee_of q ss) ≡ false → value_top plan free (Call a q ss xs) ≤ k0.long → ExpressionIs p k0.scope (Call a q ss xs) → AllOf (expression_uses p (Call a q ss xs)) → Fair gs s → Now_shown free kept s m → Stands code now r pc (ec free (Call a q ss xs)) → Goal_runs q ss free pc kept ws s m → Arguments_run xs → Outputs_run xs
         → From (cfg pc ws s m) (lands (pc + length (ec free (Call a q ss xs))) (λ v. value_word p base (here_at free) v ∷ ws)) (λ v y x. Valued a.kind free kept v y x) (value p (enter p room) (Call a q ss xs) line s)
 
     -- what has no operand is no conversion
     other_call : (other_calls : Call_runs) (xs : Arguments Note) (a : Note) (q : Root Note) (ss : Selectors Note) (free pc : ℕ) (kept : List Kept) (ws : List Word) (s : State) (m : Memory)
-        → (OperandIs p k0.scope xs → ⊥) → value_top plan free (Call a q ss xs) ≤ k0.long → ExpressionIs p k0.scope (Call a q ss xs) → AllOf (expression_uses p (Call a q ss xs)) → Fair gs s → Now_shown free kept s m → Stands code now r pc (ec free (Call a q ss xs)) → Goal_runs q ss free pc kept ws s m → Arguments_run xs
+        → (OperandIs p k0.scope xs → ⊥) → value_top plan free (Call a q ss xs) ≤ k0.long → ExpressionIs p k0.scope (Call a q ss xs) → AllOf (expression_uses p (Call a q ss xs)) → Fair gs s → Now_shown free kept s m → Stands code now r pc (ec free (Call a q ss xs)) → Goal_runs q ss free pc kept ws s m → Arguments_run xs → Outputs_run xs
         → From (cfg pc ws s m) (lands (pc + length (ec free (Call a q ss xs))) (λ v. value_word p base (here_at free) v ∷ ws)) (λ v y x. Valued a.kind free kept v y x) (value p (enter p room) (Call a q ss xs) line s)
-    other_call other_calls xs a q ss free pc kept ws s m no_operand top h u fair sh has goal_runs arguments_runs = by (callee_of q ss) refl
+    other_call other_calls xs a q ss free pc kept ws s m no_operand top h u fair sh has goal_runs arguments_runs outputs_runs = by (callee_of q ss) refl
       where
         operand_there : (c : Callee) (O G : Type 0) (whole : StType) (x : Option Called) (P : Routine → Type 0) (V : Type 0) → c ≡ a_conversion → CallIs p k0.scope c O G whole x P V → O
         operand_there c O G whole x P V is h = subst (λ c. CallIs p k0.scope c O G whole x P V) is h
 
         by : (c : Callee) → callee_of q ss ≡ c → From (cfg pc ws s m) (lands (pc + length (ec free (Call a q ss xs))) (λ v. value_word p base (here_at free) v ∷ ws)) (λ v y x. Valued a.kind free kept v y x) (value p (enter p room) (Call a q ss xs) line s)
         by a_conversion is = absurd (no_operand (operand_there (callee_of q ss) _ _ _ _ _ _ is h.1))
-        by c is = other_calls xs a q ss free pc kept ws s m (ap is_conversion is) top h u fair sh has goal_runs arguments_runs
+        by c is = other_calls xs a q ss free pc kept ws s m (ap is_conversion is) top h u fair sh has goal_runs arguments_runs outputs_runs
 
     -- what a conversion is, by its callee
     conversion_code : (c : Callee) (e : Expression Note) (xs : Arguments Note) (t : StType) (cp called : List Cell) (at : ℕ) → c ≡ a_conversion → call_value_code line c (argument_then (Positional e) xs) t cp called at ≡ cp ++ does (op.Conv (number_kind (kind e)) (elem_of t)) line ∷ []
@@ -1402,10 +1515,10 @@ module _ (p : Program) (fine : ProgramIs p) (small : Small p) (is_there : ℕ �
     conversion_operand : (c : Callee) (O G : Type 0) (whole : StType) (x : Option Called) (P : Routine → Type 0) (V : Type 0) → c ≡ a_conversion → CallIs p k0.scope c O G whole x P V → O
     conversion_operand c O G whole x P V is h = subst (λ c. CallIs p k0.scope c O G whole x P V) is h
 
-    positional_call : (e : Expression Note) (xs : Arguments Note) (a : Note) (q : Root Note) (ss : Selectors Note) (free pc : ℕ) (kept : List Kept) (ws : List Word) (s : State) (m : Memory) → Call_runs → value_top plan free (Call a q ss (argument_then (Positional e) xs)) ≤ k0.long → ExpressionIs p k0.scope (Call a q ss (argument_then (Positional e) xs)) → AllOf (expression_uses p (Call a q ss (argument_then (Positional e) xs))) → Fair gs s → Now_shown free kept s m → Stands code now r pc (ec free (Call a q ss (argument_then (Positional e) xs))) → Goal_runs q ss free pc kept ws s m → Arguments_run (argument_then (Positional e) xs)
+    positional_call : (e : Expression Note) (xs : Arguments Note) (a : Note) (q : Root Note) (ss : Selectors Note) (free pc : ℕ) (kept : List Kept) (ws : List Word) (s : State) (m : Memory) → Call_runs → value_top plan free (Call a q ss (argument_then (Positional e) xs)) ≤ k0.long → ExpressionIs p k0.scope (Call a q ss (argument_then (Positional e) xs)) → AllOf (expression_uses p (Call a q ss (argument_then (Positional e) xs))) → Fair gs s → Now_shown free kept s m → Stands code now r pc (ec free (Call a q ss (argument_then (Positional e) xs))) → Goal_runs q ss free pc kept ws s m → Arguments_run (argument_then (Positional e) xs) → Outputs_run xs
         → (value_top plan free e ≤ k0.long → ExpressionIs p k0.scope e → AllOf (expression_uses p e) → Stands code now r pc (ec free e) → From (cfg pc ws s m) (lands (pc + length (ec free e)) (λ v. value_word p base (here_at free) v ∷ ws)) (λ v y x. Valued (kind e) free kept v y x) (value p (enter p room) e line s))
         → From (cfg pc ws s m) (lands (pc + length (ec free (Call a q ss (argument_then (Positional e) xs)))) (λ v. value_word p base (here_at free) v ∷ ws)) (λ v y x. Valued a.kind free kept v y x) (value p (enter p room) (Call a q ss (argument_then (Positional e) xs)) line s)
-    positional_call e xs a q ss free pc kept ws s m other_calls top h u fair sh has goal_runs arguments_runs runs = by (callee_of q ss) refl
+    positional_call e xs a q ss free pc kept ws s m other_calls top h u fair sh has goal_runs arguments_runs outputs_runs runs = by (callee_of q ss) refl
       where
         all : Arguments Note
         all = argument_then (Positional e) xs
@@ -1427,7 +1540,7 @@ module _ (p : Program) (fine : ProgramIs p) (small : Small p) (is_there : ℕ �
             ends.same_outcome code now (conversion_value (callee_of q ss) a.kind (value p (enter p room) e) _ s is)
             (convert_run e xs a.kind free pc kept ws s m operand_is.1 result_is fair (typing.value_obeys p fine F W first first R (enter p room) reached k0.scope (scopes ks) e operand_is.0 ue) has'
             (λ has1. plainly (kind e) free kept (ap is_large operand_is.1.1) (runs fits operand_is.0 ue has1)))) has
-        by c is = other_calls all a q ss free pc kept ws s m (ap is_conversion is) top h u fair sh has goal_runs arguments_runs
+        by c is = other_calls all a q ss free pc kept ws s m (ap is_conversion is) top h u fair sh has goal_runs arguments_runs outputs_runs
 
     goal_by : (q : Root Note) (ss : Selectors Note) (free pc : ℕ) (kept : List Kept) (ws : List Word) (s : State) (m : Memory) → RootIs p k0.scope q → CalledAlong p k0.scope ss (root_note q).kind → AllOf (root_uses q ++ along_uses p (root_note q).kind ss) → Fair gs s → Now_shown free kept s m
         → Stands code now r pc (rc q ++ ac free ss (root_note q).kind)
@@ -1489,14 +1602,23 @@ module _ (p : Program) (fine : ProgramIs p) (small : Small p) (is_there : ℕ �
         value_runs (Call a q ss xs) free pc kept ws s m top h u fair sh has =
             call_value_run xs a q ss free pc kept ws s m top h u fair sh has
             (λ top' h' k' u' fair' sh' has'. goal_by q ss free pc kept ws s m h' k' u' fair' sh' has' (λ spot t x is fair2 i has2. called_along_run ss free (pc + length (rc q)) kept ws (root_owner q) (root_note q).kind spot t x top' k' (typing.back _ (root_uses q) _ u') is fair2 i has2))
-            (λ x ps free' block rest bytes pc' ws' s' m' top' ok each few h' small_xs u' once fair' sh' long has'. arguments_run xs x ps ps 0 free' block rest bytes pc' ws' s' m' top' ok each each (λ j. let z : 0 + j ≡ j = omega arith in ap (slice_get ps) z) few h' small_xs u' once fair' sh' long has')
+            (λ x ps free' block rest bytes pc' ws' s' m' top' ok each few h' u' once fair' sh' long big has'. arguments_run xs x ps ps 0 free' block rest bytes pc' ws' s' m' top' ok each each (λ j. let z : 0 + j ≡ j = omega arith in ap (slice_get ps) z) few h' u' once fair' sh' long big has')
+            (output_places xs)
+
+        -- the places that take outputs
+        pub output_places : (xs : Arguments Note) → Outputs_run xs
+        output_places no_arguments = tt
+        output_places (argument_then (Positional e) xs) = output_places xs
+        output_places (argument_then (Input a name e) xs) = output_places xs
+        output_places (argument_then (Output a name b q ss) xs) =
+            (λ free pc kept ws s m top h k u fair sh has. place_by q ss free pc kept ws s m h k u fair sh has (λ spot t x. along_run ss free (pc + length (rc q)) kept ws (root_owner q) (root_note q).kind spot t x top), output_places xs)
 
         -- a conversion; any other call belongs to the calls
-        call_value_run : (xs : Arguments Note) (a : Note) (q : Root Note) (ss : Selectors Note) (free pc : ℕ) (kept : List Kept) (ws : List Word) (s : State) (m : Memory) → value_top plan free (Call a q ss xs) ≤ k0.long → ExpressionIs p k0.scope (Call a q ss xs) → AllOf (expression_uses p (Call a q ss xs)) → Fair gs s → Now_shown free kept s m → Stands code now r pc (ec free (Call a q ss xs)) → Goal_runs q ss free pc kept ws s m → Arguments_run xs
+        call_value_run : (xs : Arguments Note) (a : Note) (q : Root Note) (ss : Selectors Note) (free pc : ℕ) (kept : List Kept) (ws : List Word) (s : State) (m : Memory) → value_top plan free (Call a q ss xs) ≤ k0.long → ExpressionIs p k0.scope (Call a q ss xs) → AllOf (expression_uses p (Call a q ss xs)) → Fair gs s → Now_shown free kept s m → Stands code now r pc (ec free (Call a q ss xs)) → Goal_runs q ss free pc kept ws s m → Arguments_run xs → Outputs_run xs
             → From (cfg pc ws s m) (lands (pc + length (ec free (Call a q ss xs))) (λ v. value_word p base (here_at free) v ∷ ws)) (λ v y x. Valued a.kind free kept v y x) (value p (enter p room) (Call a q ss xs) line s)
-        call_value_run (argument_then (Positional e) xs) a q ss free pc kept ws s m top h u fair sh has goal_runs arguments_runs =
-            positional_call e xs a q ss free pc kept ws s m other_calls top h u fair sh has goal_runs arguments_runs (λ top' h' u' has'. value_runs e free pc kept ws s m top' h' u' fair sh has')
-        call_value_run xs a q ss free pc kept ws s m top h u fair sh has goal_runs arguments_runs = other_call other_calls xs a q ss free pc kept ws s m (λ z. z) top h u fair sh has goal_runs arguments_runs
+        call_value_run (argument_then (Positional e) xs) a q ss free pc kept ws s m top h u fair sh has goal_runs arguments_runs outputs_runs =
+            positional_call e xs a q ss free pc kept ws s m other_calls top h u fair sh has goal_runs arguments_runs outputs_runs (λ top' h' u' has'. value_runs e free pc kept ws s m top' h' u' fair sh has')
+        call_value_run xs a q ss free pc kept ws s m top h u fair sh has goal_runs arguments_runs outputs_runs = other_call other_calls xs a q ss free pc kept ws s m (λ z. z) top h u fair sh has goal_runs arguments_runs outputs_runs
 
         chained_run : (ts : Tails Note) (free pc : ℕ) (kept : List Kept) (ws : List Word) (v : Value) (t w : StType) (s : State) (m : Memory) → tails_top plan free ts ≤ k0.long → TailsAre p k0.scope t ts w → AllOf (tail_uses p ts) → OfKind p F t v → Fair gs s → Valued t free kept v s m
             → Stands code now r pc (chained_code plan line free t ts)
@@ -1527,55 +1649,53 @@ module _ (p : Program) (fine : ProgramIs p) (small : Small p) (is_there : ℕ �
             place_by q ss free pc kept ws s m k.0 k.1 u fair sh has (λ spot t x. along_run ss free (pc + length (rc q)) kept ws (root_owner q) (root_note q).kind spot t x tops.0)
         bound_run e free pc kept ws s m top i h u fair sh has = absurd i
 
-        -- the arguments in written order; no value is large, and no parameter is given twice
+        -- the arguments in written order; no parameter is given twice
         pub arguments_run : (xs : Arguments Note) (x : Routine) (ps left : List Parameter) (i free block : ℕ) (rest : List Kept) (bytes : List ℕ) (pc : ℕ) (ws : List Word) (s : State) (m : Memory)
             → arguments_top plan free ps left xs ≤ k0.long → RoutineIs p x → Each (ParameterIs p x) ps → Each (ParameterIs p x) left → ((j : ℕ) → slice_get ps (i + j) ≡ slice_get left j) → base + length (k0 ∷ ks) ≤ 2147483647
-            → ArgumentsAre p k0.scope x ps left xs → SmallArguments ps left xs → AllOf (argument_uses p ps left xs) → Once (argument_numbers i left xs) → Fair gs s → Shown p base is_there now (with_block p base (record k0 { free = free }) block bytes rest ∷ ks) m s → length bytes ≡ block_size (length ps)
+            → ArgumentsAre p k0.scope x ps left xs → AllOf (argument_uses p ps left xs) → Once (argument_numbers i left xs) → Fair gs s → Shown p base is_there now (with_block p base (record k0 { free = free }) block bytes rest ∷ ks) m s → block + length bytes ≡ free → block_size (length ps) ≤ length bytes
             → Stands code now r pc (arguments_code plan line block free ps i left xs)
-            → From (cfg pc ws s m) (λ _ t y. cfg (pc + length (arguments_code plan line block free ps i left xs)) ws t y) (Passes ps free block rest bytes (argument_numbers i left xs)) (arguments p (enter p room) ps left xs line s)
-        arguments_run no_arguments x ps left i free block rest bytes pc ws s m top ok each each_left at few h small_values u once fair sh long has =
-            subst (λ n. From (cfg pc ws s m) (λ _ t y. cfg n ws t y) (Passes ps free block rest bytes []) (Done [] s)) (omega arith)
-            (ends.stays code now [] s m (record { bytes = bytes; long = long; passed = tt; numbered = tt; others = λ j b k. refl; shown = sh }))
-        arguments_run (argument_then (Output a name b q ss) xs) x ps left i free block rest bytes pc ws s m top ok each each_left at few h small_values u once fair sh long has =
-            arguments_run xs x ps left i free block rest bytes pc ws s m top ok each each_left at few h.3 small_values (typing.back _ (along_uses p (root_note q).kind ss) _ (typing.back _ (root_uses q) _ (typing.back _ (owner_uses q ss) _ u))) once fair sh long has
-        arguments_run (argument_then (Input a name e) xs) x ps left i free block rest bytes pc ws s m top ok each each_left at few h small_values u once fair sh long has =
+            → From (cfg pc ws s m) (λ _ t y. cfg (pc + length (arguments_code plan line block free ps i left xs)) ws t y) (Passes x ps (arguments_end plan free ps left xs) block rest bytes (argument_numbers i left xs)) (arguments p (enter p room) ps left xs line s)
+        arguments_run no_arguments x ps left i free block rest bytes pc ws s m top ok each each_left at few h u once fair sh long big has =
+            subst (λ n. From (cfg pc ws s m) (λ _ t y. cfg n ws t y) (Passes x ps free block rest bytes []) (Done [] s)) (omega arith)
+            (ends.stays code now [] s m (record { bytes = bytes; long = long; longer = omega arith; passed = tt; numbered = tt; others = λ j b k. refl; same_own = refl; behind = λ j n a l. refl; shown = sh }))
+        arguments_run (argument_then (Output a name b q ss) xs) x ps left i free block rest bytes pc ws s m top ok each each_left at few h u once fair sh long big has =
+            arguments_run xs x ps left i free block rest bytes pc ws s m top ok each each_left at few h.3 (typing.back _ (along_uses p (root_note q).kind ss) _ (typing.back _ (root_uses q) _ (typing.back _ (owner_uses q ss) _ u))) once fair sh long big has
+        arguments_run (argument_then (Input a name e) xs) x ps left i free block rest bytes pc ws s m top ok each each_left at few h u once fair sh long big has =
             let o = parameter_named ps a in
             let n = parameter_number a.target in
             let tops = both_fit (value_top plan free e) (arguments_top plan (free + passed_room plan o (kind e)) ps left xs) k0.long top in
-            let rest_top = subst (λ f. arguments_top plan f ps left xs ≤ k0.long) (no_room o e free small_values.0) tops.1 in
             let ub = typing.front _ (bound_uses (is_bound o) e) _ u in
             let ue = typing.front _ (expression_uses p e) _ (typing.back _ (bound_uses (is_bound o) e) _ u) in
             let ur = typing.back _ (expression_uses p e) _ (typing.back _ (bound_uses (is_bound o) e) _ u) in
             let each_one : (q : Parameter) → o ≡ Some q → ParameterIs p x q = λ q i. typing.slice_each (ParameterIs p x) ps n q each i in
             let vo = typing.value_obeys p fine F W first first R (enter p room) reached k0.scope (scopes ks) e h.0 ue in
-            argument_then_run n ps (passed_code line o (block + of_parameter n) (kind e) (ec free e) (bound_code plan line free e)) (λ f. arguments_code plan line block f ps i left xs)
-            (passed o (value p (enter p room) e) (bound_place p (enter p room) e)) (arguments p (enter p room) ps left xs) (argument_numbers i left xs) free (passed_room plan o (kind e)) block rest bytes pc ws s m
-            (no_room o e free small_values.0) once.0 fair has
+            argument_then_run x n ps (passed_code line o (block + of_parameter n) (kind e) (ec free e) (bound_code plan line free e)) (arguments_code plan line block (free + passed_room plan o (kind e)) ps i left xs)
+            (passed o (value p (enter p room) e) (bound_place p (enter p room) e)) (arguments p (enter p room) ps left xs) (argument_numbers i left xs) (free + passed_room plan o (kind e)) (arguments_end plan (free + passed_room plan o (kind e)) ps left xs) block rest bytes pc ws s m
+            big once.0 fair has
             (obeys_less p fine F W first first (typing.passed_obeys p fine F W first first R (enter p room) reached k0.scope (scopes ks) x o e (value p (enter p room) e) (bound_place p (enter p room) e) ok each_one h.1 ub vo (λ i w. typing.bound_obeys p fine F W first first R (enter p room) reached k0.scope (scopes ks) e i h.0 w ue)) (λ _ _. tt))
-            (λ has'. one_argument o n e x ps (ec free e) (bound_code plan line free e) (value p (enter p room) e) (bound_place p (enter p room) e) free block rest bytes pc ws s m refl h.1 each_one small_values.0 long fair sh few has'
-            (λ small_e has'. plainly (kind e) free (record { from = block; bytes = bytes } ∷ rest) small_e (value_runs e free pc (record { from = block; bytes = bytes } ∷ rest) ws s m tops.0 h.0 ue fair sh has')) vo
+            (λ has'. one_argument o n e x ps (ec free e) (bound_code plan line free e) (value p (enter p room) e) (bound_place p (enter p room) e) free block rest bytes pc ws s m refl h.1 each_one long big fair sh few has'
+            (λ has'. value_runs e free pc (record { from = block; bytes = bytes } ∷ rest) ws s m tops.0 h.0 ue fair sh has') vo
             (λ i has'. bound_run e free pc (record { from = block; bytes = bytes } ∷ rest) ws s m tops.0 i h.0 ue fair sh has')
             (λ i is. obeys_less p fine F W first first (typing.bound_obeys p fine F W first first R (enter p room) reached k0.scope (scopes ks) e i h.0 (subst (λ b. AllOf (bound_uses b e)) is ub) ue) (λ spot k. k.0)))
-            (λ bytes' t y fair' sh' long' has'. arguments_run xs x ps left i free block rest bytes' (pc + length (passed_code line o (block + of_parameter n) (kind e) (ec free e) (bound_code plan line free e))) ws t y rest_top ok each each_left at few h.2 small_values.1 ur once.1 fair' sh' long' has')
-        arguments_run (argument_then (Positional e) xs) x ps left i free block rest bytes pc ws s m top ok each each_left at few h small_values u once fair sh long has =
+            (λ bytes' t y fair' sh' long' big' has'. arguments_run xs x ps left i (free + passed_room plan o (kind e)) block rest bytes' (pc + length (passed_code line o (block + of_parameter n) (kind e) (ec free e) (bound_code plan line free e))) ws t y tops.1 ok each each_left at few h.2 ur once.1 fair' sh' long' big' has')
+        arguments_run (argument_then (Positional e) xs) x ps left i free block rest bytes pc ws s m top ok each each_left at few h u once fair sh long big has =
             let o = next_parameter left in
             let n = next_number i left in
             let tops = both_fit (value_top plan free e) (arguments_top plan (free + passed_room plan o (kind e)) ps (behind_next left) xs) k0.long top in
-            let rest_top = subst (λ f. arguments_top plan f ps (behind_next left) xs ≤ k0.long) (no_room o e free small_values.0) tops.1 in
             let ub = typing.front _ (bound_uses (is_bound o) e) _ u in
             let ue = typing.front _ (expression_uses p e) _ (typing.back _ (bound_uses (is_bound o) e) _ u) in
             let ur = typing.back _ (expression_uses p e) _ (typing.back _ (bound_uses (is_bound o) e) _ u) in
             let each_one : (q : Parameter) → o ≡ Some q → ParameterIs p x q = λ q i. typing.next_each (ParameterIs p x) left q each_left i in
             let vo = typing.value_obeys p fine F W first first R (enter p room) reached k0.scope (scopes ks) e h.0 ue in
-            argument_then_run n ps (passed_code line o (block + of_parameter n) (kind e) (ec free e) (bound_code plan line free e)) (λ f. arguments_code plan line block f ps (suc n) (behind_next left) xs)
-            (passed o (value p (enter p room) e) (bound_place p (enter p room) e)) (arguments p (enter p room) ps (behind_next left) xs) (argument_numbers (suc n) (behind_next left) xs) free (passed_room plan o (kind e)) block rest bytes pc ws s m
-            (no_room o e free small_values.0) once.0 fair has
+            argument_then_run x n ps (passed_code line o (block + of_parameter n) (kind e) (ec free e) (bound_code plan line free e)) (arguments_code plan line block (free + passed_room plan o (kind e)) ps (suc n) (behind_next left) xs)
+            (passed o (value p (enter p room) e) (bound_place p (enter p room) e)) (arguments p (enter p room) ps (behind_next left) xs) (argument_numbers (suc n) (behind_next left) xs) (free + passed_room plan o (kind e)) (arguments_end plan (free + passed_room plan o (kind e)) ps (behind_next left) xs) block rest bytes pc ws s m
+            big once.0 fair has
             (obeys_less p fine F W first first (typing.passed_obeys p fine F W first first R (enter p room) reached k0.scope (scopes ks) x o e (value p (enter p room) e) (bound_place p (enter p room) e) ok each_one h.1 ub vo (λ i w. typing.bound_obeys p fine F W first first R (enter p room) reached k0.scope (scopes ks) e i h.0 w ue)) (λ _ _. tt))
-            (λ has'. one_argument o n e x ps (ec free e) (bound_code plan line free e) (value p (enter p room) e) (bound_place p (enter p room) e) free block rest bytes pc ws s m (next_there ps left i at) h.1 each_one small_values.0 long fair sh few has'
-            (λ small_e has'. plainly (kind e) free (record { from = block; bytes = bytes } ∷ rest) small_e (value_runs e free pc (record { from = block; bytes = bytes } ∷ rest) ws s m tops.0 h.0 ue fair sh has')) vo
+            (λ has'. one_argument o n e x ps (ec free e) (bound_code plan line free e) (value p (enter p room) e) (bound_place p (enter p room) e) free block rest bytes pc ws s m (next_there ps left i at) h.1 each_one long big fair sh few has'
+            (λ has'. value_runs e free pc (record { from = block; bytes = bytes } ∷ rest) ws s m tops.0 h.0 ue fair sh has') vo
             (λ i has'. bound_run e free pc (record { from = block; bytes = bytes } ∷ rest) ws s m tops.0 i h.0 ue fair sh has')
             (λ i is. obeys_less p fine F W first first (typing.bound_obeys p fine F W first first R (enter p room) reached k0.scope (scopes ks) e i h.0 (subst (λ b. AllOf (bound_uses b e)) is ub) ue) (λ spot k. k.0)))
-            (λ bytes' t y fair' sh' long' has'. arguments_run xs x ps (behind_next left) (suc n) free block rest bytes' (pc + length (passed_code line o (block + of_parameter n) (kind e) (ec free e) (bound_code plan line free e))) ws t y rest_top ok each (typing.behind_each (ParameterIs p x) left each_left) (behind_there ps left i at) few h.2 small_values.1 ur once.1 fair' sh' long' has')
+            (λ bytes' t y fair' sh' long' big' has'. arguments_run xs x ps (behind_next left) (suc n) (free + passed_room plan o (kind e)) block rest bytes' (pc + length (passed_code line o (block + of_parameter n) (kind e) (ec free e) (bound_code plan line free e))) ws t y tops.1 ok each (typing.behind_each (ParameterIs p x) left each_left) (behind_there ps left i at) few h.2 ur once.1 fair' sh' long' big' has')
 
         along_run : (ss : Selectors Note) (free pc : ℕ) (kept : List Kept) (ws : List Word) (o : Option Owner) (t : StType) (spot : Spot) (s : State) (m : Memory) → along_top plan free ss ≤ k0.long → AlongIs p k0.scope ss t → AllOf (along_uses p t ss) → Found o t spot → Fair gs s → Now_shown free kept s m
             → Stands code now r pc (ac free ss t)
