@@ -1,0 +1,3 @@
+pub mod HeldTasks
+pub mod Steps
+pub mod Whole
