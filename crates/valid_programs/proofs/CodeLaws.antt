@@ -1,14 +1,19 @@
 -- Code that is made by plans as good as the program's own is its code.
-use Rattle.std.proofs.Common.{◌≡◌, ◌≤◌, ℕ, ◌+◌, Bool, List, [], ◌∷◌, map, Some, refl, ap, ◌∙◌, subst}
+use Rattle.std.proofs.Common.{◌≡◌, ◌≤◌, ℕ, ◌+◌, ◌*◌, length, Bool, List, [], ◌∷◌, map, Some, refl, ap, ◌∙◌, subst}
 use Rattle.std.specs.Prelude.{slice_get}
 use Rattle.st_values.specs.Program.{Program}
 use Rattle.stack_code.specs.declared.code.RoutineCode.{RoutineCode}
 use Rattle.stack_code.specs.declared.code.MachineCode.{MachineCode}
 use Rattle.code_cells.specs.declared.cell.Cell.{Cell}
 use Rattle.code_cells.specs.Cell.{settled, settled_from}
-use Rattle.code_rules.specs.Plan.{Plan}
-use Rattle.call_forms.specs.Tables.{Form, forms, tables_of, ops_of, lines_of, FormIs, CodeIs}
+use Rattle.st_types.specs.declared.st_type.StType.{StType}
+use Rattle.st_meaning.specs.st_frame.Promise.Declarations.{scope_of}
+use Rattle.code_rules.specs.Plan.{Plan, plan_of}
+use Rattle.code_rules.specs.Places.{locals_end}
+use Rattle.call_forms.specs.Tables.{Form, for_calls, for_runs, for_hooks, start_of, routine_in, forms, tables_of, ops_of, lines_of, FormIs, CodeIs}
 use Rattle.valid_programs.specs.Compiled.{IsRoutine, CompiledIs, IsToldBy}
+use Rattle.valid_programs.specs.Told.{Alike, Covers, RoutineCovered}
+use Rattle.valid_programs.proofs.Told.{called_same, program_same, hook_same, effects_top_same}
 
 same_ops : (pc : ℕ) (cs : List Cell) → map (λ x. x.0) (settled_from pc cs) ≡ ops_of pc cs
 same_ops pc [] = refl
@@ -39,3 +44,9 @@ code_is p lives plans code told is = record {
   bodies = is.bodies;
   methods = is.methods;
 }
+
+pub told_by : (p : Program) (K : StType → Type 0) → Covers p K → (f : Form) (w : Plan) → Alike p K w (plan_of p (tables_of p) (scope_of (routine_in f)) (start_of f)) → RoutineCovered p K (routine_in f) → IsToldBy p f w
+told_by p K covers (for_calls x) w a h = record { code = called_same p K covers w _ a x.line x 8 h; behind = effects_top_same p K covers w _ a (locals_end p 8 x.locals) x.body h.body }
+told_by p K covers (for_runs x) w a h = record { code = program_same p K covers w _ a x.line x 0 h; behind = effects_top_same p K covers w _ a (locals_end p 0 x.locals) x.body h.body }
+told_by p K covers (for_hooks x) w a h =
+    record { code = hook_same p K covers w _ a x.line x (8 * length x.parameters) h; behind = effects_top_same p K covers w _ a (locals_end p (8 * length x.parameters) x.locals) x.body h.body }
