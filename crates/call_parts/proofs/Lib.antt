@@ -1,0 +1,4 @@
+pub mod Supers
+pub mod Rooms
+pub mod Outputs
+pub mod Dispatch
