@@ -1,0 +1,4 @@
+pub mod PortLaws
+pub mod SumLaws
+pub mod Shown
+pub mod TakeLaws

@@ -1,0 +1,4 @@
+pub mod Ports
+pub mod TaskPorts
+pub mod PortLaws
+pub mod Private

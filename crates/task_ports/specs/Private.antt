@@ -1,0 +1,3 @@
+-- The words of private contracts.
+pub mod Sums
+pub mod Takes
