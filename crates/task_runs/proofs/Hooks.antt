@@ -235,7 +235,7 @@ module _ (p : Program) (fine : ProgramIs p) (is_there : ℕ → Bool) (W : ℕ �
   abbrev Fair_hook : State → Type 0
   Fair_hook s = Fair p fine small is_there W base_store R code 0 1 tables [] s
 
-  -- A hook by the machine with its flags is the hook of the meaning: D9 for FB_init, FB_exit and FB_reinit.
+  -- A hook by the machine with its flags is the hook of the meaning, as a change or a first load calls FB_init, FB_exit and FB_reinit.
   pub hook_runs : (x : Routine) (n c : ℕ) (y : Path) (own : Address) (first second : Bool) (s : State) (regions : List (Option (List ℕ))) → HookCode x n → R x → x.class ≡ Some c → Each (IsFlag x) x.parameters → length x.parameters ≤ 2
       → Names p y (type.Instance c) → is_there y.region ≡ true → W y.region → (sh : Shape) → located p 1 [] (in_store y) ≡ Some (record { address = own; shape = sh })
       → Fair_hook s → s.frames ≡ [] → s.now ≡ 0 → Shows (region_shape p) is_there regions s.store

@@ -361,7 +361,7 @@ module _ (p : Program) (fine : ProgramIs p) (task : ℕ) (fs : List ℕ) (is : I
   pub closed_in : (x : Routine) → Reached p task x → RoutineIs p x × All (Covered p (λ r. is_among r fs ≡ true) (Writes p task) (Reached p task)) (routine_uses p x)
   closed_in x k = (routine_is x k, all_of _ (routine_uses p x) (covered_use x k))
 
-  -- The programs of a task in order, with all the ticks of a cycle, on images of its footprint: D10 without latch and collect.
+  -- The programs of a task in order, with all the ticks of a cycle, on images of its footprint: a cycle of the meaning without the taking in of inputs and the giving of outputs.
   pub task_runs : (code : MachineCode) (now : ℕ) (tables : Tables) (small : Small p) (placed_so : OutputsPlaced p) (store : Store) (regions : List (Option (List ℕ))) (entries : List ℕ)
       → now ≤ last_moment → GoodOn p (Footprint p task) store → Shows (region_shape p) (λ r. is_among r fs) regions store
       → TablesAre p fine (λ r. is_among r fs) (Writes p task) store (Reached p task) code now 0 tables
